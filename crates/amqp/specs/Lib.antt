@@ -1,0 +1,4 @@
+pub mod States
+pub mod Refusals
+pub mod Tags
+pub mod Headers
