@@ -1,11 +1,11 @@
 -- A word and its eight bytes, a tag and its thirty-two.
-use mathlib.Core.Path.{_≡_, refl, sym, ap, ap₂, subst, _∙_}
+use mathlib.Core.Path.{_≡_, refl, sym, ap, ap₂, _∙_}
 use mathlib.Core.List.{List, [], _∷_, _++_}
 use Prim.Native.Nat.{ℕ, zero, suc, _+_, _-_, _*_, _/_, _%_, _≤_, _<_}
 use native.Mathlib.Omega.{arith}
 use lib.ListN.{length, take, drop, getD, replicate}
 use Rattle.std.proofs.shelf.Bits.{shr-shr, div-add-mod'}
-use Rattle.std.proofs.shelf.Lists.{drop-more, drop-drop, take-append-drop, take-all, take-at, drop-at, length-drop, length-append, length-replicate, replicate-append-replicate, length-take, length-take-le}
+use Rattle.std.proofs.shelf.Lists.{drop-more, drop-drop, take-append-drop, take-all, take-at, drop-at, length-drop, length-append, length-replicate, replicate-append-replicate, length-take-le}
 use Rattle.amqp.specs.declared.tag.DeliveryTag.{DeliveryTag}
 use Rattle.amqp.specs.Tags.{le8, all-bytes, tag-bytes, be4, tag-of, Canonical, Same-bytes-same-tag}
 

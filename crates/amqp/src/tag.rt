@@ -1,6 +1,6 @@
 // A delivery tag: 0 to 32 bytes (Part 2, 2.8.7).
 ghost use mathlib.Core.Path.{_≡_};
-ghost use mathlib.Core.List.{[], _∷_, _++_};
+ghost use mathlib.Core.List.{_++_};
 ghost use Prim.Native.Nat.{_+_, _-_, _≤_};
 ghost use lib.ListN.{length, take, drop, replicate};
 ghost use Rattle.std.specs.Options.{Cases as BySome};

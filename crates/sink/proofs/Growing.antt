@@ -1,12 +1,11 @@
 -- How a sink grows, put by put.
 use mathlib.Core.Path.{_≡_, refl, sym, ap, _∙_}
-use mathlib.Core.List.{List, [], _∷_, _++_, map}
+use mathlib.Core.List.{List, [], _++_}
 use Prim.Native.Nat.{ℕ, _≤_, _<_, _+_}
 use native.Mathlib.Omega.{arith}
 use Rattle.std.proofs.shelf.Lists.{append-nil, append-assoc}
 use Rattle.std.specs.declared.option.Option.{Option}
 use Rattle.std.specs.declared.option.Option.the-variants.{Some, None}
-use Rattle.amqp.specs.declared.error.SinkError.{SinkError}
 use Rattle.sink.specs.Frames.{Frame}
 use Rattle.sink.proofs.Room.{room-from, none-from}
 use Rattle.sink.specs.Frames.{Model, fault-at, Grown, After}

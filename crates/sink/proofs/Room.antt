@@ -1,9 +1,7 @@
 -- What the fault of a put says of the sink, and back.
-use mathlib.Core.Path.{_≡_, refl, sym, ap, subst, _∙_}
+use mathlib.Core.Path.{_≡_, refl}
 use mathlib.Core.Bool.{Bool, true, false}
-use mathlib.Core.List.{List, _++_}
-use Prim.Native.Nat.{ℕ, _+_, _<_, _≤_}
-use Rattle.std.specs.Options.{mapped}
+use Prim.Native.Nat.{ℕ, _≤_}
 use native.Mathlib.Omega.{arith}
 use lib.Dec.{ltb}
 use Rattle.std.proofs.shelf.Tests.{ltb-false, le-ltb}
@@ -12,7 +10,7 @@ use Rattle.std.specs.declared.option.Option.the-variants.{Some, None}
 use Rattle.std.specs.declared.result.Result.{Result}
 use Rattle.std.specs.declared.result.Result.the-variants.{Ok, Err}
 use Rattle.amqp.specs.declared.stop.SessionStopReason.{SessionStopReason}
-use Rattle.sink.specs.Frames.{Frame, refused, fault-of, answer}
+use Rattle.sink.specs.Frames.{refused, fault-of, answer}
 
 pub record Room (s : Option SessionStopReason) (widest vacancy width count : ℕ) : Type 0 where
   pub runs : s ≡ None

@@ -1,8 +1,8 @@
 -- How a message is cut into frames.
 use mathlib.Core.Path.{_≡_}
-use mathlib.Core.List.{List, [], _∷_, map}
+use mathlib.Core.List.{List, map}
 use mathlib.Core.Bool.{Bool}
-use Prim.Native.Nat.{ℕ, zero, suc, _≤_, _+_, _-_, _*_, _/_}
+use Prim.Native.Nat.{ℕ, zero, suc, _≤_, _+_, _-_, _*_, _/_, min}
 use lib.Dec.{ltb}
 use lib.ListN.{length, take, drop}
 use Rattle.std.specs.Iters.{counting}
@@ -10,13 +10,15 @@ use Rattle.std.specs.Joined.{joined}
 use Rattle.std.specs.shelf.Lists.{All}
 use Rattle.std.specs.declared.option.Option.{Option}
 use Rattle.std.specs.declared.option.Option.the-variants.{None}
+use Rattle.std.specs.declared.result.Result.{Result}
 use Rattle.amqp.specs.declared.header.Transfer.{Transfer as Transferring}
 use Rattle.amqp.specs.declared.header.Header.{Header}
 use Rattle.amqp.specs.declared.header.Header.the-variants.{Transfer, Disposition}
+use Rattle.amqp.specs.declared.error.SinkError.{SinkError}
 use Rattle.amqp.specs.declared.header.FrameKind.{FrameKind}
 use Rattle.amqp.specs.declared.header.FrameKind.the-variants.{First, Continuation}
 use Rattle.amqp.specs.Headers.{with-id-more, continuation-of}
-use Rattle.sink.specs.Frames.{Frame, frame}
+use Rattle.sink.specs.Frames.{Frame, frame, Model, fault-at, answer, After}
 
 -- how many frames a message of `len` bytes needs: one for each full or begun share, and one for an empty message
 abbrev pub count-of : (len share : ℕ) → ℕ
@@ -38,13 +40,9 @@ part msg share i = take share (drop (i * share) msg)
 abbrev pub frame-at : Transferring → (handle share count : ℕ) → List ℕ → ℕ → Frame
 frame-at h handle share count msg i = frame (kind-at i) handle (Transfer (transfer-at h i (ltb (i + 1) count))) (part msg share i)
 
--- the frames of a message of `len` bytes
-abbrev pub frames-of : Transferring → (handle share len : ℕ) → List ℕ → List Frame
-frames-of h handle share len msg = map (frame-at h handle share (count-of len share) msg) (counting 0 (count-of len share))
-
--- the message at a place of the pool
-abbrev pub message : List ℕ → (start len : ℕ) → List ℕ
-message pool start len = take len (drop start pool)
+-- the frames of a message
+abbrev pub frames-of : Transferring → (handle share : ℕ) → List ℕ → List Frame
+frames-of h handle share msg = map (frame-at h handle share (count-of (length msg) share) msg) (counting 0 (count-of (length msg) share))
 
 abbrev pub payload-of : Frame → List ℕ
 payload-of f = f .payload
@@ -62,3 +60,12 @@ Fits bytes size f = (id : Option ℕ) → length (bytes (with-id id (f .header))
 pub record Carries (bytes : Header → List ℕ) (size : ℕ) (msg : List ℕ) (frames : List Frame) : Type 0 where
   pub whole : joined payload-of frames ≡ msg
   pub fits : All (Fits bytes size) frames
+
+-- what a sink refuses of a message: all its frames or none
+abbrev pub split-fault : Model → List ℕ → (share : ℕ) → Option SinkError
+split-fault a msg share = fault-at a (min share (length msg)) (count-of (length msg) share)
+
+-- from `a` to `b` a message was cut into shares, with the answer `r`: its frames joined the end, or nothing changed
+pub record Split (a : Model) (msg : List ℕ) (share handle : ℕ) (h : Transferring) (r : Result (Unit {0}) SinkError) (b : Model) : Type 0 where
+  pub answer : r ≡ answer (split-fault a msg share)
+  pub after : After (split-fault a msg share) a b (frames-of h handle share msg) (count-of (length msg) share)

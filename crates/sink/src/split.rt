@@ -1,11 +1,9 @@
 // Cutting a message into frames, for any sink.
 ghost use mathlib.Core.Path.{_≡_};
-ghost use mathlib.Core.List.{List, [], _∷_};
-ghost use Prim.Native.Nat.{ℕ, _+_, _≤_, _<_, min};
+ghost use Prim.Native.Nat.{_+_, _<_, max};
 ghost use lib.Dec.{ltb};
 ghost use lib.ListN.{length};
-ghost use Rattle.sink.specs.Frames.{answer, After, fault-at};
-ghost use Rattle.sink.specs.Cuts.{count-of, kind-at, transfer-at, frames-of, message, part};
+ghost use Rattle.sink.specs.Cuts.{count-of, kind-at, transfer-at, part, Split};
 use crate::sink::Sink;
 use crate::sink::ask_room;
 use amqp::error::SinkError;
@@ -14,7 +12,7 @@ use amqp::header::Header;
 use amqp::header::Transfer;
 
 fn frames_needed(len: usize, share: usize) -> usize
-    requires { ⌜ (share ≡ 0 → len ≡ 0) ⌝ }
+    requires { ⌜ 0 < share ⌝ }
     ensures { λ r. ⌜ r ≡ count-of len share ⌝ }
 {
     if len <= share {
@@ -48,36 +46,43 @@ fn transfer_at(transfer: &Transfer, i: usize, more: bool) -> Transfer
 }
 
 // Part i of the message: a full share, or for the last one the rest.
-fn part_at(pool: &[u8], start: usize, len: usize, share: usize, i: usize, more: bool) -> &[u8]
-    requires place { ⌜ start + len ≤ length (now pool) ⌝ }
-    requires share { ⌜ (share ≡ 0 → len ≡ 0) ⌝ }
-    requires inside { ⌜ i < count-of len share ⌝ }
-    requires more { ⌜ more ≡ ltb (i + 1) (count-of len share) ⌝ }
-    ensures { λ r. ⌜ now r ≡ part (message (now (pool .entry)) start len) share i ⌝ }
+fn part_at(message: &[u8], share: usize, i: usize, more: bool) -> &[u8]
+    requires share { ⌜ 0 < share ⌝ }
+    requires inside { ⌜ i < count-of (length (now message)) share ⌝ }
+    requires more { ⌜ more ≡ ltb (i + 1) (count-of (length (now message)) share) ⌝ }
+    ensures { λ r. ⌜ now r ≡ part (now (message .entry)) share i ⌝ }
 {
-    let at = start + i * share;
-    let end = if more { at + share } else { start + len };
-    &pool[at..end]
+    let at = i * share;
+    let end = if more { at + share } else { message.len() };
+    &message[at..end]
 }
 
-// Puts the message at a place of the pool in as many frames as it needs, or none of them.
+// Puts a message in as many frames as it needs, or none of them. The message lies in the pool that was lent to the
+// link, and so do the parts that the sink is given. A share of 0 is taken for 1, so that every cut makes progress.
 pub fn split<S: Sink>(
     sink: &mut S,
-    pool: &[u8],
-    start: usize,
-    len: usize,
+    message: &[u8],
     share: usize,
     handle: u32,
     transfer: &Transfer,
 ) -> Result<(), SinkError>
-    requires place { ⌜ start + len ≤ length (now pool) ⌝ }
-    requires share { ⌜ (share ≡ 0 → len ≡ 0) ⌝ }
-    ensures answer { λ r. ⌜ r ≡ answer (fault-at (model (now (sink .entry))) (min share len) (count-of len share)) ⌝ }
-    ensures after { λ _. ⌜ After (fault-at (model (now (sink .entry))) (min share len) (count-of len share)) (model (now (sink .entry))) (model (now (sink .exit))) (frames-of (now (transfer .entry)) handle share len (message (now (pool .entry)) start len)) (count-of len share) ⌝ }
+    ensures { λ r. ⌜ Split (model (now (sink .entry))) (now (message .entry)) (max 1 share) handle (now (transfer .entry)) r (model (now (sink .exit))) ⌝ }
 {
-    let count = frames_needed(len, share);
-    let width = if share < len { share } else { len };
-    ask_room(sink, width, count)?;
+    cut(sink, message, share.max(1), handle, transfer)
+}
+
+fn cut<S: Sink>(
+    sink: &mut S,
+    message: &[u8],
+    share: usize,
+    handle: u32,
+    transfer: &Transfer,
+) -> Result<(), SinkError>
+    requires { ⌜ 0 < share ⌝ }
+    ensures { λ r. ⌜ Split (model (now (sink .entry))) (now (message .entry)) share handle (now (transfer .entry)) r (model (now (sink .exit))) ⌝ }
+{
+    let count = frames_needed(message.len(), share);
+    ask_room(sink, share.min(message.len()), count)?;
     for i in 0..count {
         let more = i + 1 < count;
         let header = Header::Transfer(transfer_at(transfer, i, more));
@@ -85,7 +90,7 @@ pub fn split<S: Sink>(
             kind_at(i),
             handle,
             &header,
-            part_at(pool, start, len, share, i, more),
+            part_at(message, share, i, more),
         )?;
     }
     Ok(())

@@ -1,7 +1,5 @@
-use mathlib.Core.Path.{_≡_, refl, ap, _∙_}
-use mathlib.Core.List.{List, _++_}
+use mathlib.Core.Path.{_≡_, ap, _∙_}
 use lib.ListN.{length, take}
-use Prim.Native.Nat.{ℕ}
 use Rattle.amqp.specs.Tags.{le8, all-bytes, tag-bytes}
 use Rattle.amqp.proofs.Words.{take-own}
 use Rattle.amqp.proofs.tag.DeliveryTag.bytes.Needs as need

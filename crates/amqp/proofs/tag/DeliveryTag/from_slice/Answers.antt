@@ -1,5 +1,4 @@
 use mathlib.Core.Path.{refl}
-use native.Mathlib.Omega.{arith}
 use Rattle.amqp.proofs.Words.{made}
 use Rattle.amqp.proofs.tag.DeliveryTag.from_slice.Needs as need
 
