@@ -1,0 +1,12 @@
+pub mod Rows
+pub mod States
+pub mod Credit
+pub mod Settings
+pub mod Outcomes
+pub mod Seats
+pub mod Views
+pub mod Turns
+pub mod Attaching
+pub mod Sending
+pub mod Disposing
+pub mod Calls

@@ -1,0 +1,3 @@
+// The sender link.
+pub mod link;
+pub mod ticket;
