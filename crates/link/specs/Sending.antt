@@ -125,7 +125,11 @@ tag-there t v = isSome (place t (v .held .table))
 abbrev pub no-seat : View → Bool
 no-seat v = not (isSome (place-by is-free (v .seats)))
 
--- 2, 9, 7, 8, 10, 14, and for an unsettled delivery 11, 13, 12
+-- what refuses an entry of the next tag: 11, 13, 12
+abbrev pub entry-rows : View → List (Option SendError)
+entry-rows v = row (table-full v) fault.TableFull ∷ row (tag-there (next-tag v) v) fault.TagInTable ∷ row (no-seat v) fault.NoSeat ∷ []
+
+-- 2, 9, 7, 8, 10, 14, and of an unsettled delivery what refuses its entry
 abbrev pub own-rows : View → Carrier → Sendable → List (Option SendError)
 own-rows v c m =
     row (not (ready v)) (fault.LinkState IllegalState)
@@ -134,10 +138,7 @@ own-rows v c m =
     ∷ row (exceeds (v .settings .«max_message_size») (m .place .len)) fault.MessageSizeExceeded
     ∷ row (eqb (v .flow .«link_credit») 0) fault.NoCredit
     ∷ row (narrow (v .settings .«max_frame_size») (size-for v c m) (m .place .len)) fault.FrameTooSmall
-    ∷ row (not (goes-settled v m) && table-full v) fault.TableFull
-    ∷ row (not (goes-settled v m) && tag-there (next-tag v) v) fault.TagInTable
-    ∷ row (not (goes-settled v m) && no-seat v) fault.NoSeat
-    ∷ []
+    ∷ cond (goes-settled v m) [] (entry-rows v)
 
 -- then what the sink refuses of the frames: 15, 17, 16
 abbrev pub sink-row : Model → (share : ℕ) → List ℕ → Option SendError
@@ -158,6 +159,10 @@ first-sent v m =
 
 abbrev pub with-table : List Entry → Held → Held
 with-table t h = record { table = t; resume = h .resume; resend = h .resend }
+
+abbrev pub answer-as : (settled : Bool) → View → Sent
+answer-as true v = settled (next-tag v)
+answer-as false v = ticket (next-number v)
 
 -- a delivery takes one credit; one that is unsettled joins the table and begins
 abbrev pub sent-as : (settled : Bool) → View → Sendable → Turn
@@ -190,7 +195,7 @@ abbrev pub sent : View → Sendable → Turn
 sent v m = sent-as (goes-settled v m) v m
 
 abbrev pub sent-answer : View → Sendable → Sent
-sent-answer v m = cond (goes-settled v m) (settled (next-tag v)) (ticket (next-number v))
+sent-answer v m = answer-as (goes-settled v m) v
 
 abbrev pub send-answer : View → Carrier → Sendable → Result Sent SendError
 send-answer v c m = gated (send-refusal v c m) (sent-answer v m)

@@ -1,1 +1,2 @@
 pub mod Attaching
+pub mod Sending

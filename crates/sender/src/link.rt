@@ -14,6 +14,7 @@ pub mod disposition;
 pub mod flow;
 pub mod making;
 pub mod open;
+pub mod send;
 pub mod tickets;
 
 #[derive(Drop)]
