@@ -1,10 +1,10 @@
 -- A list whose fields are no longer is no longer: so no transfer is longer than it is measured.
 use mathlib.Core.Bool.{Bool, true, false, cond}
-use mathlib.Core.List.{List, [], _∷_, _++_}
+use mathlib.Core.List.{List, [], _∷_}
 use mathlib.Core.Path.{_≡_, refl}
 use native.Mathlib.Omega.{arith}
 use Prim.Native.Nat.{ℕ, _≤_}
-use lib.Dec.{eqb, ltb}
+use lib.Dec.{eqb, ltb, lit≤}
 use lib.ListN.{length}
 use Rattle.std.proofs.shelf.Lists.{length-append}
 use Rattle.std.proofs.shelf.Tests.{false≢true}
@@ -14,7 +14,7 @@ use Rattle.amqp.specs.Headers.{with-id-more, continuation-of, widened, Widest}
 use Rattle.amqp.specs.Tags.{be4}
 use Rattle.amqp.specs.declared.header.Transfer.{Transfer}
 use Rattle.codec.specs.Amqp.{Val, Vals, nil, cons, null, bool, uint, ulong, binary, symbol, list, described, be8}
-use Rattle.codec.specs.Compact.{compact, compacts, absent, keep, concat, compact-list, shortest}
+use Rattle.codec.specs.Compact.{compact, compacts, absent, keep, concat, compact-list}
 use Rattle.codec.specs.Headers.{compact-bytes}
 use Rattle.codec.specs.Values.{optional, flag, transfer-fields}
 
@@ -64,23 +64,18 @@ longer vs ws l = let s = list-below (compacts vs) (compacts ws) (below vs ws l) 
 same : (v : Val) → Less v v
 same v = record { here = λ e. e; bytes = omega arith }
 
-shortest-most : (x : ℕ) (a b : Bool) (ys : List ℕ) → length ys ≡ 4 → length (cond a (0x43 ∷ []) (cond b (0x52 ∷ x ∷ []) (0x70 ∷ ys))) ≤ 5
-shortest-most x true b ys e = omega arith
-shortest-most x false true ys e = omega arith
-shortest-most x false false ys e = omega arith
+shortest-size : (x : ℕ) (a b : Bool) (i j k : ℕ) (ys : List ℕ) → 1 ≤ length ys → (1 ≤ length (cond a (i ∷ []) (cond b (j ∷ x ∷ []) (k ∷ ys)))) × (length (cond a (i ∷ []) (cond b (j ∷ x ∷ []) (k ∷ ys))) ≤ length (k ∷ ys))
+shortest-size x true b i j k ys l = (omega arith, omega arith)
+shortest-size x false true i j k ys l = (omega arith, omega arith)
+shortest-size x false false i j k ys l = (omega arith, omega arith)
 
 id-less : (id : Option ℕ) → Less (optional uint id) (uint 4294967295)
 id-less None = record { here = λ e. refl; bytes = omega arith }
-id-less (Some x) = record { here = λ e. e; bytes = shortest-most x (eqb x 0) (ltb x 256) (be4 x) refl }
+id-less (Some x) = record { here = λ e. e; bytes = shortest-size x (eqb x 0) (ltb x 256) 0x43 0x52 0x70 (be4 x) (lit≤ tt) .1 }
 
 more-less : (more : Bool) → Less (flag more) (bool true)
 more-less true = same (bool true)
 more-less false = record { here = λ e. refl; bytes = omega arith }
-
-shortest-filled : (x : ℕ) (a b : Bool) (i j k : ℕ) (ys : List ℕ) → 1 ≤ length (cond a (i ∷ []) (cond b (j ∷ x ∷ []) (k ∷ ys)))
-shortest-filled x true b i j k ys = omega arith
-shortest-filled x false true i j k ys = omega arith
-shortest-filled x false false i j k ys = omega arith
 
 list-filled : (ts : List (List ℕ)) → 1 ≤ length (compact-list ts)
 list-filled [] = omega arith
@@ -89,8 +84,8 @@ list-filled (t ∷ ts) = omega arith
 pub filled : (v : Val) → 1 ≤ length (compact v)
 filled null = omega arith
 filled (bool b) = omega arith
-filled (uint x) = shortest-filled x (eqb x 0) (ltb x 256) 0x43 0x52 0x70 (be4 x)
-filled (ulong x) = shortest-filled x (eqb x 0) (ltb x 256) 0x44 0x53 0x80 (be8 x)
+filled (uint x) = shortest-size x (eqb x 0) (ltb x 256) 0x43 0x52 0x70 (be4 x) (lit≤ tt) .0
+filled (ulong x) = shortest-size x (eqb x 0) (ltb x 256) 0x44 0x53 0x80 (be8 x) (lit≤ tt) .0
 filled (binary b) = omega arith
 filled (symbol b) = omega arith
 filled (list vs) = list-filled (compacts vs)

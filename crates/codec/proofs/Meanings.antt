@@ -1,16 +1,16 @@
 -- Compact bytes, at most 255, mean their value without the nulls at the end of its lists.
 use mathlib.Core.Bool.{Bool, true, false, cond}
-use mathlib.Core.List.{List, [], _∷_, _++_}
-use mathlib.Core.Path.{_≡_, refl, sym, ap}
+use mathlib.Core.List.{List, [], _∷_}
+use mathlib.Core.Path.{_≡_, refl, ap}
 use native.Mathlib.Omega.{arith}
-use Prim.Native.Nat.{ℕ, suc, _+_, _≤_, _<_, _^_}
+use Prim.Native.Nat.{ℕ, suc, _+_, _≤_, _<_}
 use lib.Dec.{eqb, ltb}
 use lib.ListN.{length}
 use Rattle.std.proofs.shelf.Lists.{length-append, length-take}
 use Rattle.std.proofs.shelf.Tests.{eqb-true, ltb-true}
 use Rattle.amqp.specs.Tags.{be4}
 use Rattle.codec.specs.Amqp.{Val, Vals, nil, cons, count, null, bool, uint, ulong, binary, symbol, list, described, be8, Means, MeanAll, none, more, null-40, true-41, false-42, uint-43, uint-52, uint-70, ulong-44, ulong-53, ulong-80, binary-a0, symbol-a3, list-45, list-c0, described-00}
-use Rattle.codec.specs.Compact.{compact, compacts, absent, keep, concat, compact-list, shortest}
+use Rattle.codec.specs.Compact.{compact, compacts, absent, keep, concat, compact-list}
 use Rattle.codec.specs.Meaning.{keep-value, trimmed, all-trimmed, Ranged, AllRanged}
 use Rattle.codec.specs.Bodies.{Encodes}
 use Rattle.codec.specs.declared.scratch.Scratch.{Scratch}
@@ -47,15 +47,10 @@ list-means [] nil l r = list-45
 list-means [] (cons w ws) l r = absurd (omega arith)
 list-means (t ∷ ts) ws l r = rw (r .count) (list-c0 {b = concat (t ∷ ts)} {vs = ws} (omega arith) (omega arith) (r .mean))
 
-uint-means : (x : ℕ) (a b : Bool) → eqb x 0 ≡ a → ltb x 256 ≡ b → x < 2 ^ 32 → Means (cond a (0x43 ∷ []) (cond b (0x52 ∷ x ∷ []) (0x70 ∷ be4 x))) (uint x)
-uint-means x true b e f r = rw (eqb-true x 0 e) uint-43
-uint-means x false true e f r = uint-52 (ltb-true x 256 f)
-uint-means x false false e f r = uint-70 r
-
-ulong-means : (x : ℕ) (a b : Bool) → eqb x 0 ≡ a → ltb x 256 ≡ b → x < 2 ^ 64 → Means (cond a (0x44 ∷ []) (cond b (0x53 ∷ x ∷ []) (0x80 ∷ be8 x))) (ulong x)
-ulong-means x true b e f r = rw (eqb-true x 0 e) ulong-44
-ulong-means x false true e f r = ulong-53 (ltb-true x 256 f)
-ulong-means x false false e f r = ulong-80 r
+shortest-means : (v : ℕ → Val) (i j k : ℕ) (ys : List ℕ) (x : ℕ) (a b : Bool) → eqb x 0 ≡ a → ltb x 256 ≡ b → Means (i ∷ []) (v 0) → (x < 256 → Means (j ∷ x ∷ []) (v x)) → Means (k ∷ ys) (v x) → Means (cond a (i ∷ []) (cond b (j ∷ x ∷ []) (k ∷ ys))) (v x)
+shortest-means v i j k ys x true b e f nought small wide = rw (eqb-true x 0 e) nought
+shortest-means v i j k ys x false true e f nought small wide = small (ltb-true x 256 f)
+shortest-means v i j k ys x false false e f nought small wide = wide
 
 bool-means : (b : Bool) → Means (cond b 0x41 0x42 ∷ []) (bool b)
 bool-means true = true-41
@@ -65,8 +60,8 @@ mutual
   means : (v : Val) → Ranged v → length (compact v) ≤ 255 → Means (compact v) (trimmed v)
   means null r l = null-40
   means (bool b) r l = bool-means b
-  means (uint x) r l = uint-means x (eqb x 0) (ltb x 256) refl refl r
-  means (ulong x) r l = ulong-means x (eqb x 0) (ltb x 256) refl refl r
+  means (uint x) r l = shortest-means uint 0x43 0x52 0x70 (be4 x) x (eqb x 0) (ltb x 256) refl refl uint-43 uint-52 (uint-70 r)
+  means (ulong x) r l = shortest-means ulong 0x44 0x53 0x80 (be8 x) x (eqb x 0) (ltb x 256) refl refl ulong-44 ulong-53 (ulong-80 r)
   means (binary b) r l = binary-a0 (omega arith)
   means (symbol b) r l = symbol-a3 (omega arith)
   means (list vs) r l =

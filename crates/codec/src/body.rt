@@ -9,7 +9,7 @@ use crate::scratch::Scratch;
 const NULLS: [u8; 16] = [0x40; 16];
 
 #[derive(Drop)]
-pub struct Body {
+pub(crate) struct Body {
     // The fields up to the last that is present, and how many they are.
     bytes: Scratch,
     count: u8,
@@ -18,7 +18,7 @@ pub struct Body {
 }
 
 impl Body {
-    pub fn new() -> Body
+    pub(crate) fn new() -> Body
         ensures made { λ r. ⌜ met r ≡ none-met ⌝ }
         ensures empty { λ r. ⌜ Empty r ⌝ }
     {
@@ -29,7 +29,7 @@ impl Body {
         }
     }
 
-    pub fn skip(&mut self)
+    pub(crate) fn skip(&mut self)
         requires { ⌜ Room 1 (now self) ⌝ }
         ensures made { λ _. ⌜ met (now (self .exit)) ≡ skipped (met (now (self .entry))) ⌝ }
         ensures grew { λ _. ⌜ Grew 1 (now (self .entry)) (now (self .exit)) ⌝ }
@@ -37,7 +37,7 @@ impl Body {
         self.gap += 1;
     }
 
-    pub fn put(&mut self, field: &[u8])
+    pub(crate) fn put(&mut self, field: &[u8])
         requires { ⌜ Room (length (now field)) (now self) ⌝ }
         ensures made { λ _. ⌜ met (now (self .exit)) ≡ added (met (now (self .entry))) (now (field .entry)) ⌝ }
         ensures grew { λ _. ⌜ Grew (length (now (field .entry))) (now (self .entry)) (now (self .exit)) ⌝ }
@@ -50,7 +50,7 @@ impl Body {
     }
 
     // The described list of these fields: its size counts the byte of its count.
-    pub fn close(&self, code: u8) -> Scratch
+    pub(crate) fn close(&self, code: u8) -> Scratch
         requires { ⌜ now self .bytes .len ≤ 249 ⌝ }
         ensures made { λ r. ⌜ held r ≡ 0x00 ∷ 0x53 ∷ code ∷ closed (met (now (self .entry))) ⌝ }
         ensures len { λ r. ⌜ r .len ≤ now (self .entry) .bytes .len + 6 ⌝ }

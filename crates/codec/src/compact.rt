@@ -1,6 +1,5 @@
 // The compact encoder: the shortest codes, and no nulls at the end of a list.
 ghost use mathlib.Core.Path.{_≡_};
-ghost use lib.ListN.{length};
 ghost use Rattle.codec.specs.Headers.{compact-bytes, Means-header, Plain-measures-21};
 ghost use Rattle.codec.specs.Written.{written, after-write};
 use crate::encoder::Encoder;

@@ -10,7 +10,7 @@ use crate::body::Body;
 use crate::scratch::Scratch;
 use amqp::tag::DeliveryTag;
 
-pub trait Field {
+pub(crate) trait Field {
     ghost value: { Self → Val };
 
     // How many bytes it takes at most.
@@ -24,9 +24,9 @@ pub trait Field {
 }
 
 #[derive(Drop)]
-pub struct Absent;
+pub(crate) struct Absent;
 
-pub impl Field for Absent as AbsentField {
+pub(crate) impl Field for Absent as AbsentField {
     ghost value = { λ _. null };
 
     ghost most = { 1 };
@@ -36,7 +36,7 @@ pub impl Field for Absent as AbsentField {
     }
 }
 
-pub impl<T: Field> Field for Option<T> as OptionField {
+pub(crate) impl<T: Field> Field for Option<T> as OptionField {
     ghost value = { optional (T·Field .value) };
 
     ghost most = { T·Field .most };
@@ -49,7 +49,7 @@ pub impl<T: Field> Field for Option<T> as OptionField {
     }
 }
 
-pub impl Field for bool as BoolField {
+pub(crate) impl Field for bool as BoolField {
     ghost value = { boolean };
 
     ghost most = { 1 };
@@ -65,9 +65,9 @@ pub impl Field for bool as BoolField {
 
 // A boolean that is false where it is absent.
 #[derive(Drop)]
-pub struct Flag(pub bool);
+pub(crate) struct Flag(pub(crate) bool);
 
-pub impl Field for Flag as FlagField {
+pub(crate) impl Field for Flag as FlagField {
     ghost value = { λ f. flag (f .0) };
 
     ghost most = { 1 };
@@ -81,7 +81,7 @@ pub impl Field for Flag as FlagField {
     }
 }
 
-pub impl Field for u32 as U32Field {
+pub(crate) impl Field for u32 as U32Field {
     ghost value = { uint };
 
     ghost most = { 5 };
@@ -99,7 +99,7 @@ pub impl Field for u32 as U32Field {
     }
 }
 
-pub impl Field for u64 as U64Field {
+pub(crate) impl Field for u64 as U64Field {
     ghost value = { ulong };
 
     ghost most = { 9 };
@@ -118,7 +118,7 @@ pub impl Field for u64 as U64Field {
 }
 
 // A code, the number of bytes in one byte, and the bytes.
-pub fn append_sized(body: &mut Body, code: u8, bytes: &[u8])
+pub(crate) fn append_sized(body: &mut Body, code: u8, bytes: &[u8])
     requires { ⌜ Room (length (now bytes) + 2) (now body) ⌝ }
     ensures made { λ _. ⌜ met (now (body .exit)) ≡ added (met (now (body .entry))) (code ∷ length (now (bytes .entry)) ∷ now (bytes .entry)) ⌝ }
     ensures grew { λ _. ⌜ Grew (length (now (bytes .entry)) + 2) (now (body .entry)) (now (body .exit)) ⌝ }
@@ -129,7 +129,7 @@ pub fn append_sized(body: &mut Body, code: u8, bytes: &[u8])
     body.put(sized.as_slice());
 }
 
-pub impl Field for DeliveryTag as TagField {
+pub(crate) impl Field for DeliveryTag as TagField {
     ghost value = { tag-value };
 
     ghost most = { 34 };

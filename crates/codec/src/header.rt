@@ -1,5 +1,4 @@
 // Headers: described lists of their fields (Part 2, 2.7.5 and 2.7.6).
-ghost use Prim.Native.Nat.{ℕ};
 ghost use Rattle.amqp.specs.declared.header.Header.the-variants as header;
 ghost use Rattle.codec.specs.Values.{header-value};
 ghost use Rattle.codec.specs.Bodies.{Encodes};
@@ -53,7 +52,7 @@ fn disposition(h: &Disposition) -> Scratch
     body.close(0x15)
 }
 
-pub fn encoded(header: &Header) -> Scratch
+pub(crate) fn encoded(header: &Header) -> Scratch
     ensures { λ r. ⌜ Encodes 255 (header-value (now (header .entry))) r ⌝ }
 {
     match header {

@@ -7,14 +7,14 @@ ghost use Rattle.codec.specs.Written.{written, after-write};
 use amqp::error::MemoryError;
 
 #[derive(Drop)]
-pub struct Scratch {
+pub(crate) struct Scratch {
     bytes: [u8; 256],
     len: usize,
     ghost ok: { len ≤ 256 },
 }
 
 impl Scratch {
-    pub fn new() -> Scratch
+    pub(crate) fn new() -> Scratch
         ensures held { λ r. ⌜ take (r .len) (r .bytes) ≡ [] ⌝ }
         ensures len { λ r. ⌜ r .len ≡ 0 ⌝ }
     {
@@ -24,7 +24,7 @@ impl Scratch {
         }
     }
 
-    pub fn append(&mut self, more: &[u8])
+    pub(crate) fn append(&mut self, more: &[u8])
         requires { ⌜ now self .len + length (now more) ≤ 256 ⌝ }
         ensures held { λ _. ⌜ take (now (self .exit) .len) (now (self .exit) .bytes) ≡ take (now (self .entry) .len) (now (self .entry) .bytes) ++ now (more .entry) ⌝ }
         ensures len { λ _. ⌜ now (self .exit) .len ≡ now (self .entry) .len + length (now (more .entry)) ⌝ }
@@ -34,7 +34,7 @@ impl Scratch {
         self.len = end;
     }
 
-    pub fn as_slice(&self) -> &[u8]
+    pub(crate) fn as_slice(&self) -> &[u8]
         ensures value { λ r. ⌜ now r ≡ take (now (self .entry) .len) (now (self .entry) .bytes) ⌝ }
         ensures len { λ r. ⌜ length (now r) ≡ now (self .entry) .len ⌝ }
     {
@@ -42,7 +42,7 @@ impl Scratch {
     }
 
     // Copies the bytes to the front of `out`, or refuses and changes nothing.
-    pub fn copy_to(&self, out: &mut [u8]) -> Result<usize, MemoryError>
+    pub(crate) fn copy_to(&self, out: &mut [u8]) -> Result<usize, MemoryError>
         ensures answer { λ r. ⌜ r ≡ written (take (now (self .entry) .len) (now (self .entry) .bytes)) (now (out .entry)) ⌝ }
         ensures after { λ _. ⌜ now (out .exit) ≡ after-write (take (now (self .entry) .len) (now (self .entry) .bytes)) (now (out .entry)) ⌝ }
     {

@@ -1,11 +1,11 @@
 // Delivery states and errors as fields: described lists of their own (Part 3, 3.4; Part 2, 2.8.14).
 ghost use mathlib.Core.Path.{_≡_};
-ghost use Prim.Native.Nat.{ℕ, _≤_};
+ghost use Prim.Native.Nat.{_≤_};
 ghost use lib.ListN.{length};
 ghost use Rattle.amqp.specs.declared.state.DeliveryState.the-variants as state;
-ghost use Rattle.codec.specs.Amqp.{Val, symbol};
+ghost use Rattle.codec.specs.Amqp.{symbol};
 ghost use Rattle.codec.specs.Values.{condition-name, error-value, state-value};
-ghost use Rattle.codec.specs.Bodies.{Room, Took, Encodes};
+ghost use Rattle.codec.specs.Bodies.{Encodes};
 use crate::body::Body;
 use crate::field::Absent;
 use crate::field::AbsentField;
@@ -55,7 +55,7 @@ impl Field for Condition as ConditionField {
     }
 }
 
-fn error(condition: AmqpError) -> Scratch
+fn described_error(condition: AmqpError) -> Scratch
     ensures { λ r. ⌜ Encodes 38 (error-value condition) r ⌝ }
 {
     let mut body = Body::new();
@@ -65,13 +65,13 @@ fn error(condition: AmqpError) -> Scratch
     body.close(0x1d)
 }
 
-pub impl Field for AmqpError as ErrorField {
+pub(crate) impl Field for AmqpError as ErrorField {
     ghost value = { error-value };
 
     ghost most = { 38 };
 
     fn append_to(&self, body: &mut Body) {
-        body.put(error(*self).as_slice());
+        body.put(described_error(*self).as_slice());
     }
 }
 
@@ -102,7 +102,7 @@ fn modified(failed: Option<bool>, undeliverable: Option<bool>) -> Scratch
     body.close(0x27)
 }
 
-fn outcome(state: DeliveryState) -> Scratch
+fn described_state(state: DeliveryState) -> Scratch
     ensures { λ r. ⌜ Encodes 44 (state-value state) r ⌝ }
 {
     match state {
@@ -117,12 +117,12 @@ fn outcome(state: DeliveryState) -> Scratch
     }
 }
 
-pub impl Field for DeliveryState as StateField {
+pub(crate) impl Field for DeliveryState as StateField {
     ghost value = { state-value };
 
     ghost most = { 44 };
 
     fn append_to(&self, body: &mut Body) {
-        body.put(outcome(*self).as_slice());
+        body.put(described_state(*self).as_slice());
     }
 }

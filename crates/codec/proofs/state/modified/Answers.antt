@@ -1,3 +1,4 @@
+use borrow.Author.Needs.{needs}
 use native.Mathlib.Omega.{arith}
 use lib.Dec.{lit<}
 use Rattle.codec.specs.Values.{modified-fields}
@@ -9,5 +10,5 @@ returns c =
     record {
       made = closes 0x27 (modified-fields (c .args .failed) (c .args .undeliverable)) _ _ (c .close .ensures .made) (cc);
       len = omega arith;
-      ranged = (lit< tt, (c .append-to .ensures .ranged, (c .append-to-2 .ensures .ranged, (tt, tt))));
+      ranged = (lit< tt, search needs);
     }

@@ -1,4 +1,3 @@
-use mathlib.Core.Path.{refl}
 use lib.Dec.{lit≤}
 use Rattle.codec.proofs.state.name.Needs as need
 

@@ -1,3 +1,4 @@
+use borrow.Author.Needs.{needs}
 use native.Mathlib.Omega.{arith}
 use lib.Dec.{lit<}
 use Rattle.codec.specs.Amqp.{nil, cons}
@@ -10,5 +11,5 @@ returns c =
     record {
       made = closes 0x25 (cons (optional error-value (c .args .error)) nil) _ _ (c .close .ensures .made) (cc);
       len = omega arith;
-      ranged = (lit< tt, (c .append-to .ensures .ranged, tt));
+      ranged = (lit< tt, search needs);
     }

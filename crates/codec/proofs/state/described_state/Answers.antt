@@ -2,7 +2,7 @@ use native.Mathlib.Omega.{arith}
 use lib.Dec.{lit<}
 use Rattle.codec.specs.Amqp.{nil}
 use Rattle.codec.proofs.Closing.{closes}
-use Rattle.codec.proofs.state.outcome.Needs as need
+use Rattle.codec.proofs.state.described_state.Needs as need
 
 pub returns-in-Accepted : need.returns-in-Accepted
 returns-in-Accepted c =

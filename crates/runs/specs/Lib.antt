@@ -1,0 +1,4 @@
+pub mod Runs
+pub mod Lives
+pub mod Frames
+pub mod Safe
