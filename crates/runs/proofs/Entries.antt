@@ -56,13 +56,13 @@ turned : (n : ℕ) (x : Entry) (xs : List Entry) → of n (but-last x xs) ++ of 
 turned n x [] = refl
 turned n x (y ∷ ys) = let ih = turned n y ys in grind arith
 
-swapped : (as bs : List Entry) → length (as ++ bs) ≤ 1 → bs ++ as ≡ as ++ bs
+swapped : (cs bs : List Entry) → length (cs ++ bs) ≤ 1 → bs ++ cs ≡ cs ++ bs
 swapped [] [] h = refl
 swapped [] (b ∷ []) h = refl
 swapped [] (b ∷ (c ∷ bs)) h = absurd (omega arith)
 swapped (a ∷ []) [] h = refl
-swapped (a ∷ (c ∷ as)) [] h = absurd (omega arith)
-swapped (a ∷ as) (b ∷ bs) h = absurd (omega (arith, length-append as (b ∷ bs)))
+swapped (a ∷ (c ∷ cs)) [] h = absurd (omega arith)
+swapped (a ∷ cs) (b ∷ bs) h = absurd (omega (arith, length-append cs (b ∷ bs)))
 
 of-filled : (n : ℕ) (xs : List Entry) → length (of n xs) ≤ 1 → of n (filled xs) ≡ of n xs
 of-filled n [] h = refl
@@ -162,6 +162,7 @@ found-other t n x e (y ∷ xs) h k w u = go (same-tag (y .tag) t) (eqb n (y .ent
     none-of : (xs : List Entry) → of n xs ≡ e ∷ [] → tally t xs ≡ 0 → same-tag (e .tag) t ≡ false
     none-of [] h′ k′ = let z : _≡_ {A = ℕ} 0 1 = cc in absurd (omega arith)
     none-of (y ∷ ys) h′ k′ = let ih = none-of ys in grind arith
+
     go : (b c : Bool) → same-tag (y .tag) t ≡ b → eqb n (y .entry .ticket) ≡ c → cond b (Some y) (found t xs) ≡ Some x
         → cond c (y ∷ of n xs) (of n xs) ≡ e ∷ [] → one b + tally t xs ≤ 1
         → (found t xs ≡ Some x → eqb n (x .entry .ticket) ≡ false → of n xs ≡ e ∷ [] → tally t xs ≤ 1 → same-tag (e .tag) t ≡ false)
@@ -176,8 +177,8 @@ found-other t n x e (y ∷ xs) h k w u = go (same-tag (y .tag) t) (eqb n (y .ent
 -- replacing an entry keeps each tag as often as it was, where the tag is one with the entry's
 pub tally-exchange : (t u : DeliveryTag) (m : UnsettledMessage) (xs : List Entry) → ((x : Entry) → same-tag (x .tag) u ≡ true → x .tag ≡ u) → tally t (exchanged u m xs) ≡ tally t xs
 tally-exchange t u m [] s = refl
-tally-exchange t u m (x ∷ xs) s = go (same-tag (x .tag) u) refl
+tally-exchange t u m (x ∷ xs) s = go (same-tag (x .tag) u) refl (tally-exchange t u m xs s)
   where
-    go : (b : Bool) → same-tag (x .tag) u ≡ b → tally t (cond b (record { tag = u; entry = m } ∷ xs) (x ∷ exchanged u m xs)) ≡ one (same-tag (x .tag) t) + tally t xs
-    go true q = ap (λ (r : DeliveryTag). one (same-tag r t) + tally t xs) (sym (s x q))
-    go false q = omega (arith, tally-exchange t u m xs s)
+    go : (b : Bool) → same-tag (x .tag) u ≡ b → tally t (exchanged u m xs) ≡ tally t xs → tally t (cond b (record { tag = u; entry = m } ∷ xs) (x ∷ exchanged u m xs)) ≡ one (same-tag (x .tag) t) + tally t xs
+    go true q ih = ap (λ (r : DeliveryTag). one (same-tag r t) + tally t xs) (sym (s x q))
+    go false q ih = omega (arith, ih)

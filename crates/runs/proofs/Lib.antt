@@ -1,2 +1,9 @@
 pub mod Tables
 pub mod Entries
+pub mod Onward
+pub mod Seats
+pub mod Sound
+pub mod Lived
+pub mod Telling
+pub mod Going
+pub mod Runs

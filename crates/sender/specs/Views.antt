@@ -6,7 +6,6 @@ use Rattle.amqp.specs.declared.error.MakeError.{MakeError}
 use Rattle.unsettled.specs.Tables.{held, room}
 use Rattle.unsettled.specs.Worklists.{items, space}
 use Rattle.link.specs.declared.settings.Settings.{Settings}
-use Rattle.link.specs.Attaching.{none-unsettled}
 use Rattle.link.specs.Seats.{seated}
 use Rattle.link.specs.Views.{View, Rooms}
 use Rattle.sender.specs.declared.link.SenderLink.{SenderLink}

@@ -1,4 +1,4 @@
-use mathlib.Core.Path.{_≡_, sym, ap, _∙_}
+use mathlib.Core.Path.{sym, ap, _∙_}
 use Rattle.std.specs.declared.result.Result.the-variants.{Ok}
 use Rattle.link.specs.Attaching.{attach-refusal, late-refusal, attached-state, exchanged}
 use Rattle.link.proofs.Rows.{err-by, gated-err, gated-ok}

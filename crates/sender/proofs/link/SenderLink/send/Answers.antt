@@ -1,11 +1,11 @@
-use mathlib.Core.Path.{_≡_, sym, ap, subst, _∙_}
-use mathlib.Core.Bool.{false}
+use mathlib.Core.Path.{sym, ap, _∙_}
 use Rattle.link.specs.Rows.{first}
 use Rattle.link.specs.Sending.{carrier, own-rows, transfer-of, send-refusal}
 use Rattle.link.proofs.Rows.{err-by, gated-err, gated-ok, accepted}
 use Rattle.sender.specs.Views.{view}
 use Rattle.sender.specs.Sends.{answered, plan-of}
-use Rattle.sender.proofs.Sending.{clear, carries, refused-answer, refused-link, refused-sink, refused-carries, whole-answer, whole-link, whole-sink}
+use Rattle.link.proofs.Sending.{clear, carries}
+use Rattle.sender.proofs.Sending.{refused-answer, refused-link, refused-sink, refused-carries, whole-answer, whole-link, whole-sink}
 use Rattle.sender.proofs.link.SenderLink.send.Needs as need
 
 pub returns-in-Break-plan : need.returns-in-Break-plan
