@@ -42,11 +42,12 @@ laid-from : (t : Transfer) (handle share count : ℕ) (msg : List ℕ) → count
     → Laid t handle share (kind-at i) (map (frame-at t handle share count msg) (counting i (suc k)))
 laid-from t handle share count msg c zero i e =
     (framed t handle share count msg i false (le-ltb (i + 1) count (omega arith)), omega (arith, part-fits msg share i))
-laid-from t handle share count msg c (suc k) i e =
-    ( framed t handle share count msg i true (lt-ltb (i + 1) count (omega arith))
-    , full-part msg share i (whole (length msg) share i (omega arith))
-    , subst (λ (f : FrameKind). Laid t handle share f (map (frame-at t handle share count msg) (counting (i + 1) (suc k)))) (ap kind-at (add-one i))
-      (laid-from t handle share count msg c k (i + 1) (omega arith)) )
+laid-from t handle share count msg c (suc k) i e = (
+  framed t handle share count msg i true (lt-ltb (i + 1) count (omega arith)),
+  full-part msg share i (whole (length msg) share i (omega arith)),
+  subst (λ (f : FrameKind). Laid t handle share f (map (frame-at t handle share count msg) (counting (i + 1) (suc k)))) (ap kind-at (add-one i))
+      (laid-from t handle share count msg c k (i + 1) (omega arith)),
+)
 
 laid : (t : Transfer) (handle share : ℕ) (msg : List ℕ) → Laid t handle share First (frames-of t handle share msg)
 laid t handle share msg =

@@ -104,6 +104,7 @@ disposal-plain v t b s = go (look t (v .held .table))
     taken : (m : UnsettledMessage) (e : Bool) → (disposed-as e t s m v .begun ≡ []) × (disposed-as e t s m v .spent ≡ [])
     taken m true = (refl, refl)
     taken m false = (refl, refl)
+
     go : (o : Option UnsettledMessage) → (disposed-at o t b s v .begun ≡ []) × (disposed-at o t b s v .spent ≡ [])
     go None = (refl, refl)
     go (Some m) = taken m (b || ended s)
@@ -126,6 +127,7 @@ not-yet v c m n s None q h = go (goes-settled v m) h
   where
     k : Clear v c m
     k = clear v c m (own-clear v c m q)
+
     go : (b : Bool) → sent-as b v m .flow .«delivery_count» ≤ n → sent-life v m n b ≡ unborn
     go true g = refl
     go false g =

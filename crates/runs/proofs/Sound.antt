@@ -66,6 +66,7 @@ one-more v m t h a = go (same-tag (next-tag v) t) refl (place (next-tag v) (v .h
   where
     sum : tally t (v .held .table ++ first-sent v m ∷ []) ≡ tally t (v .held .table) + (one (same-tag (next-tag v) t) + 0)
     sum = tally-++ t (v .held .table) (first-sent v m ∷ [])
+
     go : (b : Bool) → same-tag (next-tag v) t ≡ b → (o : Option ℕ) → place (next-tag v) (v .held .table) ≡ o → isSome o ≡ false → tally t (v .held .table ++ first-sent v m ∷ []) ≤ 1
     go false q o p n = omega (arith, sum, ap one q, h .single t)
     go true q None p n =

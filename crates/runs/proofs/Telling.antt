@@ -114,6 +114,7 @@ module _ (n : ℕ) (r : Run) (c : Call) (h : Seated n r) where
     where
       k : among n (turn (after r) c .begun) ≡ gives n (after r) c
       k = begins-given (after r) c n
+
       go : (s : ℕ) → given n r ≡ s → seat-of n (sit-all (turn (after r) c .begun) (after r .seats)) ≡ Some (progress (life r n))
       go zero q =
           let y : progress (life r n) ≡ Pending = no-word (life r n) (omega (arith, lived n r .births)) in

@@ -3,6 +3,7 @@ ghost use mathlib.Core.Path.{_≡_};
 ghost use Rattle.link.specs.Attaching.{attach-answer, attach-refusal, attached-state, late-refusal, attached-settings, exchanged};
 ghost use Rattle.link.specs.Calls.{Attach as AttachCall, step};
 ghost use Rattle.link.specs.Rows.{gated};
+ghost use Rattle.runs.specs.Safe.{Safe-after};
 ghost use Rattle.sender.specs.Views.{view, with-settings};
 use super::SenderLink;
 use amqp::error::SenderAttachError;
@@ -68,6 +69,18 @@ impl<'a> SenderLink<'a> {
 
     // The peer's attach has come. Where it has no target, or wants another settlement, the refusal leaves the link moved.
     pub fn attach(
+        &mut self,
+        attach: &Attach<'_>,
+        pool: &[u8],
+    ) -> Result<SenderAttachExchange, SenderAttachError>
+        ensures answer { λ r. ⌜ r ≡ attach-answer (view (now (self .entry))) (now (attach .entry)) (now (pool .entry)) ⌝ }
+        ensures link { λ _. ⌜ view (now (self .exit)) ≡ step (view (now (self .entry))) (AttachCall (now (attach .entry)) (now (pool .entry))) ⌝ }
+        ensures no_delivery_lost_or_ended_twice { λ _. ⌜ Safe-after (view (now (self .entry))) (AttachCall (now (attach .entry)) (now (pool .entry))) (view (now (self .exit))) ⌝ }
+    {
+        self.on_incoming_attach(attach, pool)
+    }
+
+    fn on_incoming_attach(
         &mut self,
         attach: &Attach<'_>,
         pool: &[u8],

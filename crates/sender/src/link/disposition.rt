@@ -6,6 +6,7 @@ ghost use Rattle.link.specs.Calls.{Disposition, step};
 ghost use Rattle.link.specs.Disposing.{settle-back, settles-second, disposed-as};
 ghost use Rattle.link.specs.Turns.{landed};
 ghost use Rattle.unsettled.specs.Tables.{look};
+ghost use Rattle.runs.specs.Safe.{Safe-after};
 ghost use Rattle.sender.specs.Views.{view};
 use super::SenderLink;
 use amqp::mode::ReceiverSettleMode;
@@ -66,6 +67,19 @@ impl<'a> SenderLink<'a> {
 
     // The peer told a delivery's state. The answer: whether it waits for us to settle too.
     pub fn disposition(
+        &mut self,
+        tag: &DeliveryTag,
+        settled: bool,
+        state: Option<DeliveryState>,
+    ) -> bool
+        ensures answer { λ r. ⌜ r ≡ settle-back (view (now (self .entry))) settled state ⌝ }
+        ensures link { λ _. ⌜ view (now (self .exit)) ≡ step (view (now (self .entry))) (Disposition (now (tag .entry)) settled state) ⌝ }
+        ensures no_delivery_lost_or_ended_twice { λ _. ⌜ Safe-after (view (now (self .entry))) (Disposition (now (tag .entry)) settled state) (view (now (self .exit))) ⌝ }
+    {
+        self.on_incoming_disposition(tag, settled, state)
+    }
+
+    fn on_incoming_disposition(
         &mut self,
         tag: &DeliveryTag,
         settled: bool,

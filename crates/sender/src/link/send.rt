@@ -4,6 +4,8 @@ ghost use mathlib.Core.Bool.{false};
 ghost use Prim.Native.Nat.{_+_, _≤_};
 ghost use lib.ListN.{length};
 ghost use Rattle.link.specs.Sending.{carrier, ready, busy, narrow, transfer-of, next-tag, tag-there, table-full};
+ghost use Rattle.link.specs.Calls.{Send};
+ghost use Rattle.runs.specs.Safe.{Safe-after};
 ghost use Rattle.sender.specs.Views.{view};
 ghost use Rattle.sender.specs.Sends.{addable, planned, added, Handed-over, Sends};
 use super::SenderLink;
@@ -180,6 +182,19 @@ impl<'a> SenderLink<'a> {
 
     // Sends a message in as many frames as it needs.
     pub fn send<S: Sink, E: Encoder>(
+        &mut self,
+        sink: &mut S,
+        encoder: &E,
+        pool: &[u8],
+        message: &Sendable,
+    ) -> Result<Settlement, SendError>
+        ensures sends { λ r. ⌜ Sends (view (now (self .entry))) (carrier (bytes (now (encoder .entry))) (now (pool .entry)) (model (now (sink .entry)))) (now (message .entry)) r (view (now (self .exit))) (model (now (sink .exit))) ⌝ }
+        ensures no_delivery_lost_or_ended_twice { λ _. ⌜ Safe-after (view (now (self .entry))) (Send (carrier (bytes (now (encoder .entry))) (now (pool .entry)) (model (now (sink .entry)))) (now (message .entry))) (view (now (self .exit))) ⌝ }
+    {
+        self.send_payload(sink, encoder, pool, message)
+    }
+
+    fn send_payload<S: Sink, E: Encoder>(
         &mut self,
         sink: &mut S,
         encoder: &E,

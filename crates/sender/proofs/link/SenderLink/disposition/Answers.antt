@@ -1,0 +1,7 @@
+use Rattle.runs.proofs.Runs.{safe-after}
+use Rattle.sender.proofs.link.SenderLink.disposition.Needs as need
+
+pub returns : need.returns
+returns c =
+    let e = c .on-incoming-disposition .ensures in
+    record { answer = e .answer; link = e .link; no-delivery-lost-or-ended-twice = safe-after _ _ _ (e .link) }
