@@ -1,5 +1,5 @@
 -- Lists in lent memory: a list is the front of a length, or a part, as far as there is memory.
-use mathlib.Core.Path.{_≡_, refl, sym, ap, _∙_}
+use mathlib.Core.Path.{_≡_, sym, ap, _∙_}
 use mathlib.Core.Logic.{⊎-elim}
 use mathlib.Core.List.{List, [], _∷_, _++_}
 use Prim.Native.Nat.{ℕ, zero, suc, min, _+_, _-_, _≤_, _<_}
@@ -14,7 +14,7 @@ use Rattle.unsettled.specs.declared.slot.Slot.{Slot}
 use Rattle.unsettled.specs.Tables.{place, look, put-in, swap-out, swap-removed}
 use Rattle.unsettled.proofs.Places.{look-some, put-some, put-none, swap-some}
 
--- a front that is longer than the list is the list
+-- a length may be brought within the list: the front stays
 pub front-min : {X : Type 0} (xs : List X) (n m : ℕ) → m ≡ min n (length xs) → take m xs ≡ take n xs
 front-min xs n m e =
     ⊎-elim (λ h. let q : m ≡ n = omega arith in ap (λ k. take k xs) q)

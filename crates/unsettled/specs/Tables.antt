@@ -2,7 +2,7 @@
 use mathlib.Core.Bool.{Bool, true, cond, _&&_}
 use mathlib.Core.List.{List, [], _∷_, _++_}
 use Prim.Native.Nat.{ℕ, suc}
-use lib.Dec.{ltb, eqb}
+use lib.Dec.{ltb, leb, eqb}
 use lib.ListN.{length, take, set, getD}
 use Rattle.std.specs.declared.option.Option.{Option}
 use Rattle.std.specs.declared.option.Option.the-variants.{Some, None}
@@ -25,7 +25,7 @@ room m = length (m .slots .now)
 
 -- all its memory is in use
 abbrev pub full : {M : Type 0} → UnsettledMap M → Bool
-full m = eqb (length (held m)) (room m)
+full m = leb (room m) (length (held m))
 
 -- an index counted from one place earlier
 abbrev pub later : Option ℕ → Option ℕ

@@ -52,7 +52,7 @@ impl<'a, M: Copy> UnsettledMap<'a, M> {
     pub fn is_full(&self) -> bool
         ensures { λ r. ⌜ r ≡ full (now (self .entry)) ⌝ }
     {
-        self.count() == self.capacity()
+        self.count() >= self.capacity()
     }
 
     pub fn at(&self, i: usize) -> Option<Slot<M>>

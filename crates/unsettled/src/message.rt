@@ -15,7 +15,8 @@ pub struct Place {
     pub len: usize,
 }
 
-// What is kept of a delivery until it is settled: its message, the state last recorded, and the number of its ticket.
+// What is kept of a delivery until it is settled: its message, the state last recorded, and the
+// number of its ticket.
 #[derive(Clone, Copy)]
 pub struct UnsettledMessage {
     pub place: Place,

@@ -76,7 +76,7 @@ impl<'a> SenderLink<'a> {
     fn may_add(&self) -> Result<(), SendError>
         ensures { λ r. ⌜ r ≡ addable (view (now (self .entry))) ⌝ }
     {
-        if self.unsettled.count() >= self.unsettled.capacity() {
+        if self.unsettled.is_full() {
             return Err(SendError::TableFull);
         }
         let tag = DeliveryTag::from_count(self.flow_state.delivery_count);
