@@ -1,0 +1,9 @@
+pub mod Plains
+pub mod Taking
+pub mod Heads
+pub mod Room
+pub mod Frames
+pub mod Sends
+pub mod Rounds
+pub mod Shipments
+pub mod Attaches
