@@ -7,3 +7,4 @@ pub mod Sends
 pub mod Rounds
 pub mod Shipments
 pub mod Attaches
+pub mod Wording

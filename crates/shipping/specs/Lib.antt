@@ -6,3 +6,4 @@ pub mod Unloading
 pub mod Docks
 pub mod Openings
 pub mod Texts
+pub mod Words
