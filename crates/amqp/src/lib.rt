@@ -1,4 +1,6 @@
 // AMQP 1.0's types, as far as a sender link uses them.
+#![tactic(auto)]
+
 pub mod condition;
 pub mod error;
 pub mod header;

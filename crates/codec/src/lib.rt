@@ -1,4 +1,6 @@
 // Encoders of AMQP headers: what one is, and the compact one.
+#![tactic(auto)]
+
 mod body;
 pub mod compact;
 pub mod encoder;

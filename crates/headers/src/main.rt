@@ -1,4 +1,6 @@
 // Reads headers from the lines of a file, or of standard input, and prints what each is.
+#![tactic(auto)]
+
 mod run;
 
 use crate::run::{Stop, run};

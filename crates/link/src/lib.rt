@@ -1,4 +1,6 @@
 // What a sender link is made of, and the rules that it keeps.
+#![tactic(auto)]
+
 pub mod attach;
 pub mod delivery;
 pub mod flow;

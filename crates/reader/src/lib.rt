@@ -1,4 +1,6 @@
 // Readers of AMQP headers: each reads what its encoder writes, and nothing else.
+#![tactic(auto)]
+
 mod compact;
 mod cursor;
 mod field;

@@ -1,3 +1,5 @@
 // The sender link.
+#![tactic(auto)]
+
 pub mod link;
 pub mod ticket;

@@ -1,4 +1,6 @@
 // Ships files to an archive, one AMQP message each.
+#![tactic(auto)]
+
 use codec::compact::Compact;
 use shipping::dock::Dock;
 use shipping::dock::opening::LinkMemory;

@@ -1,4 +1,6 @@
 // Files as AMQP messages: each is sent over a link, and an archive at the other end takes it in and answers.
+#![tactic(auto)]
+
 pub mod archive;
 pub mod dock;
 pub mod message;

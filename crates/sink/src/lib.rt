@@ -1,3 +1,5 @@
 // Where a link puts its frames, and how a message is cut into them.
+#![tactic(auto)]
+
 pub mod sink;
 pub mod split;

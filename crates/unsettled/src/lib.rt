@@ -1,4 +1,6 @@
 // Unsettled deliveries, ours and the peer's, in memory that is lent.
+#![tactic(auto)]
+
 pub mod map;
 pub mod message;
 pub mod peer;

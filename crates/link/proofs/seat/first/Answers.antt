@@ -4,15 +4,15 @@ use Rattle.link.specs.Seats.{place_by, wanted}
 use Rattle.link.proofs.Places.{place_here, place_more}
 use Rattle.link.proofs.seat.first.Goals as goal
 
-pub returns-then-is-for : goal.returns-then-is-for
-returns-then-is-for c =
+pub returns-then-is_for : goal.returns-then-is_for
+returns-then-is_for c =
     record {
-      found = place_here (wanted c.args.number) c.args.seats.now c.loop-i.i _ c.loop-i.invariant (omega arith) (sym c.if-is-for.ensures);
+      found = place_here (wanted c.args.number) c.args.seats.now c.loop-i.i _ c.loop-i.invariant (omega arith) (sym c.if-is_for.ensures);
       within = omega arith;
     }
 
 pub loop-i-preserved : goal.loop-i-preserved
-loop-i-preserved c = place_more (wanted c.args.number) c.args.seats.now c.loop-i.i _ c.loop-i.invariant (omega arith) (sym c.if-is-for.ensures)
+loop-i-preserved c = place_more (wanted c.args.number) c.args.seats.now c.loop-i.i _ c.loop-i.invariant (omega arith) (sym c.if-is_for.ensures)
 
 pub returns : goal.returns
 returns c =

@@ -6,9 +6,9 @@ pub returns-then-not-terse : goal.returns-then-not-terse
 unfolding flag_at
 returns-then-not-terse g c = search rules
 
-pub returns-in-err-next : goal.returns-in-err-next
+pub returns-in_err-next : goal.returns-in_err-next
 unfolding flag_at
-returns-in-err-next g c = search rules
+returns-in_err-next g c = search rules
 
 pub returns-in-None-default : goal.returns-in-None-default
 unfolding flag_at

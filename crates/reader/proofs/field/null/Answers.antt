@@ -2,9 +2,9 @@ use Rattle.std.proofs.Common.{rules}
 use Rattle.reader.specs.Fields.{null_at}
 use Rattle.reader.proofs.field.null.Goals as goal
 
-pub returns-in-err-next : goal.returns-in-err-next
+pub returns-in_err-next : goal.returns-in_err-next
 unfolding null_at
-returns-in-err-next g c = search rules
+returns-in_err-next g c = search rules
 
 pub returns-in-Some : goal.returns-in-Some
 unfolding null_at

@@ -2,9 +2,9 @@ use Rattle.std.proofs.Common.{rules}
 use Rattle.reader.specs.Headers.{header_at}
 use Rattle.reader.proofs.header.header.Goals as goal
 
-pub returns-in-err-code : goal.returns-in-err-code
+pub returns-in_err-code : goal.returns-in_err-code
 unfolding header_at
-returns-in-err-code g c = search rules
+returns-in_err-code g c = search rules
 
 pub returns-in-20 : goal.returns-in-20
 unfolding header_at
@@ -14,6 +14,6 @@ pub returns-in-21 : goal.returns-in-21
 unfolding header_at
 returns-in-21 g c = search rules
 
-pub returns-in-default : goal.returns-in-default
+pub returns-in_default : goal.returns-in_default
 unfolding header_at
-returns-in-default g c = search rules
+returns-in_default g c = search rules

@@ -2,53 +2,53 @@ use Rattle.std.proofs.Common.{rules}
 use Rattle.reader.specs.Headers.{transfer_at}
 use Rattle.reader.proofs.header.transfer.Goals as goal
 
-pub returns-in-err-c : goal.returns-in-err-c
+pub returns-in_err-c : goal.returns-in_err-c
 unfolding transfer_at
-returns-in-err-c g c = search rules
+returns-in_err-c g c = search rules
 
-pub returns-in-err-handle : goal.returns-in-err-handle
+pub returns-in_err-handle : goal.returns-in_err-handle
 unfolding transfer_at
-returns-in-err-handle g c = search rules
+returns-in_err-handle g c = search rules
 
-pub returns-in-err-delivery-id : goal.returns-in-err-delivery-id
+pub returns-in_err-delivery_id : goal.returns-in_err-delivery_id
 unfolding transfer_at
-returns-in-err-delivery-id g c = search rules
+returns-in_err-delivery_id g c = search rules
 
-pub returns-in-err-delivery-tag : goal.returns-in-err-delivery-tag
+pub returns-in_err-delivery_tag : goal.returns-in_err-delivery_tag
 unfolding transfer_at
-returns-in-err-delivery-tag g c = search rules
+returns-in_err-delivery_tag g c = search rules
 
-pub returns-in-err-message-format : goal.returns-in-err-message-format
+pub returns-in_err-message_format : goal.returns-in_err-message_format
 unfolding transfer_at
-returns-in-err-message-format g c = search rules
+returns-in_err-message_format g c = search rules
 
-pub returns-in-err-settled : goal.returns-in-err-settled
+pub returns-in_err-settled : goal.returns-in_err-settled
 unfolding transfer_at
-returns-in-err-settled g c = search rules
+returns-in_err-settled g c = search rules
 
-pub returns-in-err-more : goal.returns-in-err-more
+pub returns-in_err-more : goal.returns-in_err-more
 unfolding transfer_at
-returns-in-err-more g c = search rules
+returns-in_err-more g c = search rules
 
-pub returns-in-err-c-2 : goal.returns-in-err-c-2
+pub returns-in_err-c-2 : goal.returns-in_err-c-2
 unfolding transfer_at
-returns-in-err-c-2 g c = search rules
+returns-in_err-c-2 g c = search rules
 
-pub returns-in-err-state : goal.returns-in-err-state
+pub returns-in_err-state : goal.returns-in_err-state
 unfolding transfer_at
-returns-in-err-state g c = search rules
+returns-in_err-state g c = search rules
 
-pub returns-in-err-resume : goal.returns-in-err-resume
+pub returns-in_err-resume : goal.returns-in_err-resume
 unfolding transfer_at
-returns-in-err-resume g c = search rules
+returns-in_err-resume g c = search rules
 
-pub returns-in-err-aborted : goal.returns-in-err-aborted
+pub returns-in_err-aborted : goal.returns-in_err-aborted
 unfolding transfer_at
-returns-in-err-aborted g c = search rules
+returns-in_err-aborted g c = search rules
 
-pub returns-in-err-batchable : goal.returns-in-err-batchable
+pub returns-in_err-batchable : goal.returns-in_err-batchable
 unfolding transfer_at
-returns-in-err-batchable g c = search rules
+returns-in_err-batchable g c = search rules
 
 pub returns : goal.returns
 unfolding transfer_at

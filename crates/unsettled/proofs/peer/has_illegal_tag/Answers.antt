@@ -3,14 +3,14 @@ use Rattle.unsettled.specs.Peers.{illegal_below, illegal_tags}
 use Rattle.unsettled.proofs.Legal.{illegal_here, illegal_more, legal_decides}
 use Rattle.unsettled.proofs.peer.has_illegal_tag.Goals as goal
 
-pub returns-then-is-illegal : goal.returns-then-is-illegal
-returns-then-is-illegal c =
+pub returns-then-is_illegal : goal.returns-then-is_illegal
+returns-then-is_illegal c =
     let ps = c.args.pairs.now in
-    let e : true ≡ illegal_tags ps = illegal_here ps c.loop-i.i (omega arith) c.if-is-illegal.ensures in
+    let e : true ≡ illegal_tags ps = illegal_here ps c.loop-i.i (omega arith) c.if-is_illegal.ensures in
     record { value = e; legal = legal_decides ps true e }
 
 pub loop-i-preserved : goal.loop-i-preserved
-loop-i-preserved c = illegal_more c.args.pairs.now c.loop-i.i c.loop-i.invariant c.if-is-illegal.ensures
+loop-i-preserved c = illegal_more c.args.pairs.now c.loop-i.i c.loop-i.invariant c.if-is_illegal.ensures
 
 pub returns : goal.returns
 returns c =

@@ -8,15 +8,15 @@ use Rattle.codec.proofs.field.DeliveryTagField.append_to.Goals as goal
 short : (t : DeliveryTag) → length (tag_bytes t) ≤ 32
 short t = omega (arith, length-take t.len (all_bytes t))
 
-pub slice-bounds-append-sized-end : goal.slice-bounds-append-sized-end
-slice-bounds-append-sized-end c = let s = short c.args.self.now in search rules
+pub slice_bounds-append_sized-end : goal.slice_bounds-append_sized-end
+slice_bounds-append_sized-end c = let s = short c.args.self.now in search rules
 
 -- the part that is handed on is the tag
 part : (n : ℕ) (all : List ℕ) (t : DeliveryTag) → n ≡ length (tag_bytes t) → take (length (tag_bytes t)) all ≡ tag_bytes t → take (n - 0) all ≡ tag_bytes t
 part n all t e own = let z : n - 0 ≡ length (tag_bytes t) = omega arith in rw z own
 
-pub append-sized-requires : goal.append-sized-requires
-append-sized-requires c =
+pub append_sized-requires : goal.append_sized-requires
+append_sized-requires c =
     let s = short c.args.self.now in
     let p = part _ _ c.args.self.now c.len.ensures c.bytes-all.ensures.own_val in
     search rules

@@ -22,7 +22,7 @@ returns g c =
     record {
       made =
           joined F c.args.code s _ _ _ _ _ _ _ _ _ _ _ c.new-list.ensures.held c.append.ensures.held c.from.ensures c.ulong.ensures.made
-          (ap (λ x. s.count + x) c.written-gap-gap.ensures) (size F s _ _ c.as-slice-fields.ensures.value c.written-gap-gap.ensures) c.list.ensures.made
-          c.as-slice-fields.ensures.value c.append-2.ensures.held n c.append-3.ensures.held;
+          (ap (λ x. s.count + x) c.written_gap-gap.ensures) (size F s _ _ c.as_slice-fields.ensures.value c.written_gap-gap.ensures) c.list.ensures.made
+          c.as_slice-fields.ensures.value c.append-2.ensures.held n c.append-3.ensures.held;
       len = omega (arith, ap length n, length-replicate {A = ℕ} (written_gap F s) 0x40);
     }

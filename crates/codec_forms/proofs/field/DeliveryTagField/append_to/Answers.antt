@@ -8,11 +8,11 @@ use Rattle.codec_forms.proofs.field.DeliveryTagField.append_to.Goals as goal
 short : (t : DeliveryTag) → length (tag_bytes t) ≤ 32
 short t = omega (arith, length-take t.len (all_bytes t))
 
-pub overflow-cast-len : goal.overflow-cast-len
-overflow-cast-len g c = let s = short c.args.self.now in search rules
+pub overflow_cast-len : goal.overflow_cast-len
+overflow_cast-len g c = let s = short c.args.self.now in search rules
 
-pub slice-bounds-append-end : goal.slice-bounds-append-end
-slice-bounds-append-end g c = let s = short c.args.self.now in search rules
+pub slice_bounds-append-end : goal.slice_bounds-append-end
+slice_bounds-append-end g c = let s = short c.args.self.now in search rules
 
 -- the part that is handed on is the tag
 part : (n : ℕ) (all : List ℕ) (t : DeliveryTag) → n ≡ length (tag_bytes t) → take (length (tag_bytes t)) all ≡ tag_bytes t → take (n - 0) all ≡ tag_bytes t

@@ -6,5 +6,5 @@ use Rattle.codec_forms.proofs.state.ConditionField.append_to.Goals as goal
 pub returns : goal.returns
 unfolding step
 returns g c =
-    let a = append_assoc (held c.begin.new.self.bytes) (g.F.Form.form.symbols (length c.condition-name-name.result.now)) c.condition-name-name.result.now in
+    let a = append_assoc (held c.begin.new.self.bytes) (g.F.Form.form.symbols (length c.condition_name-name.result.now)) c.condition_name-name.result.now in
     search rules

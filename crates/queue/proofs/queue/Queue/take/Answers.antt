@@ -18,27 +18,27 @@ returns-then-out-len c =
     let k = short (model_of q) (framed x (q.head * q.widest) q.bytes.items) _ c.args.out.now o.first (omega (arith, o.len, c.if-out-len.true)) in
     record { answer = sym k.answer; after = sym k.after; read = sym k.read }
 
-pub overflow-add-at : goal.overflow-add-at
-overflow-add-at c =
+pub overflow_add-at : goal.overflow_add-at
+overflow_add-at c =
     let q = c.args.self.now in
     let x = c.index-place.result.now in
     let o = at_head q x c.if-self-eq0.false c.index-place.ensures in
     omega (arith, o.inside, q.bytes.small, q.bytes.ok)
 
-pub slice-bounds-copy-from-slice-end-3 : goal.slice-bounds-copy-from-slice-end-3
-slice-bounds-copy-from-slice-end-3 c =
+pub slice_bounds-copy_from_slice-end-3 : goal.slice_bounds-copy_from_slice-end-3
+slice_bounds-copy_from_slice-end-3 c =
     let q = c.args.self.now in
     let x = c.index-place.result.now in
     let o = at_head q x c.if-self-eq0.false c.index-place.ensures in
     let i = o.inside in
     search rules
 
-pub invariant-of-self-2 : goal.invariant-of-self-2
-invariant-of-self-2 c =
+pub invariant_of-self-2 : goal.invariant_of-self-2
+invariant_of-self-2 c =
     let q = c.args.self.now in
     let ps = q.places in
-    let s = c.slot-at-self.ensures.value ∙ ap (λ k. slot k q.head 1) c.len.ensures in
-    (q.room, ((omega (arith, c.slot-at-self.ensures.inside, c.len.ensures), omega (arith, q.ring)), (rw s (rest_sized ps.items ps.len q.widest q.head q.used q.sized), tt)))
+    let s = c.slot_at-self.ensures.value ∙ ap (λ k. slot k q.head 1) c.len.ensures in
+    (q.room, ((omega (arith, c.slot_at-self.ensures.inside, c.len.ensures), omega (arith, q.ring)), (rw s (rest_sized ps.items ps.len q.widest q.head q.used q.sized), tt)))
 
 pub returns : goal.returns
 returns c =
@@ -48,10 +48,10 @@ returns c =
     let f = framed x (q.head * q.widest) q.bytes.items in
     let out = c.args.out.now in
     let at = q.head * q.widest in
-    let s = c.slot-at-self.ensures.value ∙ ap (λ k. slot k q.head 1) c.len.ensures in
+    let s = c.slot_at-self.ensures.value ∙ ap (λ k. slot k q.head 1) c.len.ensures in
     let k = took (model_of q) f _ out o.first (omega (arith, o.len, c.if-out-len.false)) in
     let n : (at + x.size) - at ≡ x.size = omega arith in
-    let copied = c.copy-from-slice.ensures.after ∙ ap (λ m. take m (drop at c.deref.result.now)) n ∙ ap (λ bs. take x.size (drop at bs)) c.deref.ensures.value in
+    let copied = c.copy_from_slice.ensures.after ∙ ap (λ m. take m (drop at c.deref.result.now)) n ∙ ap (λ bs. take x.size (drop at bs)) c.deref.ensures.value in
     record {
       answer = ap (λ m. Ok (Some (record { kind = x.kind; handle = x.handle; header = x.header; len = m }))) (sym o.len) ∙ sym k.answer;
       after = freed_is (model_of q) _ _ (q.places.len - (q.used - 1)) (ap (λ h. frames_in q.places.items q.bytes.items q.widest q.places.len h (q.used - 1)) s) (omega (arith, q.ring.1, c.if-self-eq0.false)) ∙ sym k.after;

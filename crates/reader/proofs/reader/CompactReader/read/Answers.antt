@@ -4,4 +4,4 @@ use Rattle.reader.specs.Whole.{exact}
 use Rattle.reader.proofs.reader.CompactReader.read.Goals as goal
 
 pub returns : goal.returns
-returns c = record { value = c.read-by.ensures; exact = rw c.read-by.ensures (exact compact_reading compact_lawful c.args.bytes.now) }
+returns c = record { value = c.read_by.ensures; exact = rw c.read_by.ensures (exact compact_reading compact_lawful c.args.bytes.now) }

@@ -2,14 +2,14 @@ use Rattle.std.proofs.Common.{rules}
 use Rattle.reader.specs.States.{state_at}
 use Rattle.reader.proofs.state.DeliveryStateItem.read_at.Goals as goal
 
-pub returns-in-err-code : goal.returns-in-err-code
+pub returns-in_err-code : goal.returns-in_err-code
 unfolding state_at
-returns-in-err-code g c = search rules
+returns-in_err-code g c = search rules
 
 pub returns-in-35-to-39 : goal.returns-in-35-to-39
 unfolding state_at
 returns-in-35-to-39 g c = search rules
 
-pub returns-in-default : goal.returns-in-default
+pub returns-in_default : goal.returns-in_default
 unfolding state_at
-returns-in-default g c = search rules
+returns-in_default g c = search rules

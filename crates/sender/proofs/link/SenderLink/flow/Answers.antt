@@ -3,5 +3,5 @@ use Rattle.sender.proofs.link.SenderLink.flow.Goals as goal
 
 pub returns : goal.returns
 returns c =
-    let e = c.on-incoming-flow.ensures in
+    let e = c.on_incoming_flow.ensures in
     record { answer = e.answer; link = e.link; no_delivery_lost_or_ended_twice = safe_after _ _ _ e.link }

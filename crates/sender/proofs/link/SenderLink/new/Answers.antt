@@ -10,5 +10,5 @@ returns c =
     record {
       link = c.make.ensures;
       no_delivery_lost_or_ended_twice =
-          begins (record { settings = a.settings; initial = a.initial-delivery-count; rooms = rooms; seats = length a.seats.now; counted = omega arith }) c.make.result c.make.ensures;
+          begins (record { settings = a.settings; initial = a.initial_delivery_count; rooms = rooms; seats = length a.seats.now; counted = omega arith }) c.make.result c.make.ensures;
     }

@@ -5,28 +5,28 @@ use Rattle.sender.specs.Views.{view}
 use Rattle.sender.proofs.Attaching.{refused_answer, refused_link, late_answer, done_answer, moved_link}
 use Rattle.sender.proofs.link.SenderLink.on_incoming_attach.Goals as goal
 
-pub returns-in-err-self : goal.returns-in-err-self
-returns-in-err-self c =
+pub returns-in_err-self : goal.returns-in_err-self
+returns-in_err-self c =
     let v = view c.args.self.now in
     let a = c.args.attach.now in
     let pool = c.args.pool.now in
-    let e = gated_err (attach_refusal v a pool) (attached_state v a) _ (sym c.in-err-self.was ∙ c.may-attach.ensures) in
-    let f = c.from-residual.ensures in
+    let e = gated_err (attach_refusal v a pool) (attached_state v a) _ (sym c.in_err-self.was ∙ c.may_attach.ensures) in
+    let f = c.from_residual.ensures in
     record {
-      answer = err_by c.from-residual.result _ f.0 f.1 ∙ refused_answer v a pool _ e;
+      answer = err_by c.from_residual.result _ f.0 f.1 ∙ refused_answer v a pool _ e;
       link = refused_link v a pool _ e;
     }
 
-pub returns-in-err-negotiate : goal.returns-in-err-negotiate
-returns-in-err-negotiate c =
+pub returns-in_err-negotiate : goal.returns-in_err-negotiate
+returns-in_err-negotiate c =
     let v = view c.args.self.now in
     let a = c.args.attach.now in
     let pool = c.args.pool.now in
-    let m = gated_ok (attach_refusal v a pool) (attached_state v a) _ (sym c.in-ok-self.was ∙ c.may-attach.ensures) in
-    let e = gated_err (late_refusal v a) tt _ (sym c.in-err-negotiate.was ∙ c.negotiate.ensures.answer) in
-    let f = c.from-residual-in-err-negotiate.ensures in
+    let m = gated_ok (attach_refusal v a pool) (attached_state v a) _ (sym c.in_ok-self.was ∙ c.may_attach.ensures) in
+    let e = gated_err (late_refusal v a) tt _ (sym c.in_err-negotiate.was ∙ c.negotiate.ensures.answer) in
+    let f = c.from_residual-in_err-negotiate.ensures in
     record {
-      answer = err_by c.from-residual-in-err-negotiate.result _ f.0 f.1 ∙ late_answer v a pool _ m.0 e;
+      answer = err_by c.from_residual-in_err-negotiate.result _ f.0 f.1 ∙ late_answer v a pool _ m.0 e;
       link = moved_link v a pool _ _ m.0 m.1 c.negotiate.ensures.link;
     }
 
@@ -35,8 +35,8 @@ returns c =
     let v = view c.args.self.now in
     let a = c.args.attach.now in
     let pool = c.args.pool.now in
-    let m = gated_ok (attach_refusal v a pool) (attached_state v a) _ (sym c.in-ok-self.was ∙ c.may-attach.ensures) in
-    let n = gated_ok (late_refusal v a) tt _ (sym c.in-ok-negotiate.was ∙ c.negotiate.ensures.answer) in
+    let m = gated_ok (attach_refusal v a pool) (attached_state v a) _ (sym c.in_ok-self.was ∙ c.may_attach.ensures) in
+    let n = gated_ok (late_refusal v a) tt _ (sym c.in_ok-negotiate.was ∙ c.negotiate.ensures.answer) in
     let w = c.negotiate.ensures.link in
     let x = ap (λ u. exchanged u.state u a) w in
     let y = ap (λ s. exchanged s v a) m.1 in

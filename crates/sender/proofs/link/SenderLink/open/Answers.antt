@@ -3,5 +3,5 @@ use Rattle.sender.proofs.link.SenderLink.open.Goals as goal
 
 pub returns : goal.returns
 returns c =
-    let e = c.send-attach.ensures in
+    let e = c.send_attach.ensures in
     record { answer = e.answer; link = e.link; no_delivery_lost_or_ended_twice = safe_after _ _ _ e.link }

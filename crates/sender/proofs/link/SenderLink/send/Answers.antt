@@ -3,5 +3,5 @@ use Rattle.sender.proofs.link.SenderLink.send.Goals as goal
 
 pub returns : goal.returns
 returns g c =
-    let e = c.send-payload.ensures in
+    let e = c.send_payload.ensures in
     record { sends = e; no_delivery_lost_or_ended_twice = safe_after _ _ _ e.link }

@@ -8,26 +8,26 @@ use Rattle.link.proofs.Sending.{clear, carries}
 use Rattle.sender.proofs.Sending.{refused_answer, refused_link, refused_sink, refused_carries, whole_answer, whole_link, whole_sink}
 use Rattle.sender.proofs.link.SenderLink.send_payload.Goals as goal
 
-pub returns-in-err-plan : goal.returns-in-err-plan
-returns-in-err-plan g c =
+pub returns-in_err-plan : goal.returns-in_err-plan
+returns-in_err-plan g c =
     let v = view c.args.self.now in
     let k = carrier (g.E.Encoder.bytes c.args.encoder.now) c.args.pool.now (g.S.Sink.model c.args.sink.now) in
     let m = c.args.message.now in
-    let e = gated_err (first (own_rows v k m)) (plan_of v k m) _ (sym c.in-err-plan.was ∙ c.may-send.ensures) in
-    let f = c.from-residual.ensures in
+    let e = gated_err (first (own_rows v k m)) (plan_of v k m) _ (sym c.in_err-plan.was ∙ c.may_send.ensures) in
+    let f = c.from_residual.ensures in
     record {
-      answer = ap answered (err_by c.from-residual.result _ f.0 f.1) ∙ refused_answer v k m _ e;
+      answer = ap answered (err_by c.from_residual.result _ f.0 f.1) ∙ refused_answer v k m _ e;
       link = refused_link v k m _ e;
       sink = refused_sink v k m _ e;
       carries = refused_carries v k m _ _ e;
     }
 
-pub do-send-requires : goal.do-send-requires
-do-send-requires g c =
+pub do_send-requires : goal.do_send-requires
+do_send-requires g c =
     let v = view c.args.self.now in
     let k = carrier (g.E.Encoder.bytes c.args.encoder.now) c.args.pool.now (g.S.Sink.model c.args.sink.now) in
     let m = c.args.message.now in
-    let e = gated_ok (first (own_rows v k m)) (plan_of v k m) c.in-ok-plan.plan (sym c.in-ok-plan.was ∙ c.may-send.ensures) in
+    let e = gated_ok (first (own_rows v k m)) (plan_of v k m) c.in_ok-plan.plan (sym c.in_ok-plan.was ∙ c.may_send.ensures) in
     let f = clear v k m e.0 in
     let s = ap (λ p. p.settled) e.1 in
     record { place = f.place; absent = λ h. f.absent (sym s ∙ h); room = λ h. f.room (sym s ∙ h) }
@@ -37,11 +37,11 @@ returns g c =
     let v = view c.args.self.now in
     let k = carrier (g.E.Encoder.bytes c.args.encoder.now) c.args.pool.now (g.S.Sink.model c.args.sink.now) in
     let m = c.args.message.now in
-    let e = gated_ok (first (own_rows v k m)) (plan_of v k m) c.in-ok-plan.plan (sym c.in-ok-plan.was ∙ c.may-send.ensures) in
+    let e = gated_ok (first (own_rows v k m)) (plan_of v k m) c.in_ok-plan.plan (sym c.in_ok-plan.was ∙ c.may_send.ensures) in
     let w = g.met.E.Encoder.widest c.args.encoder.now (transfer_of v m) in
     record {
-      answer = whole_answer v k m _ _ e.1 e.0 c.do-send.ensures.answer;
-      link = whole_link v k m _ _ e.1 e.0 c.do-send.ensures.link;
-      sink = whole_sink v k m _ _ e.1 e.0 c.do-send.ensures.sink;
+      answer = whole_answer v k m _ _ e.1 e.0 c.do_send.ensures.answer;
+      link = whole_link v k m _ _ e.1 e.0 c.do_send.ensures.link;
+      sink = whole_sink v k m _ _ e.1 e.0 c.do_send.ensures.sink;
       carries = accepted (send_refusal v k m) (carries v k m w (clear v k m e.0));
     }

@@ -11,15 +11,15 @@ returns-in-Ok g c =
 
 pub loop-settlement-smaller : goal.loop-settlement-smaller
 loop-settlement-smaller g c =
-    fed _ _ _ _ _ _ _ _ (c.is-full.ensures.0 c.if-not-is-full.false) c.in-Err.ensures c.in-ok-make-room.ensures.queue
+    fed _ _ _ _ _ _ _ _ (c.is_full.ensures.0 c.if-not-is_full.false) c.in-Err.ensures c.in_ok-make_room.ensures.queue
 
 pub loop-settlement-preserved : goal.loop-settlement-preserved
 loop-settlement-preserved g c =
-    let after = c.in-ok-make-room.ensures in
+    let after = c.in_ok-make_room.ensures in
     let kept = stayed _ _ _ _ _ _ c.in-Err.ensures in
-    (after.link ∙ kept.0 ∙ c.loop-settlement.invariant.0, λ e. ap (λ (m : Model). m.waiting) after.queue ∙ roomier_none (queue_of c.try-send.new.self))
+    (after.link ∙ kept.0 ∙ c.loop-settlement.invariant.0, λ e. ap (λ (m : Model). m.waiting) after.queue ∙ roomier_none (queue_of c.try_send.new.self))
 
-pub returns-then-not-is-full : goal.returns-then-not-is-full
-returns-then-not-is-full g c =
+pub returns-then-not-is_full : goal.returns-then-not-is_full
+returns-then-not-is_full g c =
     let kept = stayed _ _ _ _ _ _ c.in-Err.ensures in
-    (kept.0 ∙ c.loop-settlement.invariant.0, λ e. (let yes = c.is-full.ensures.1 e in let no = c.if-not-is-full.true in let z : ◌≡◌ {A = ℕ} 0 1 = cc in omega arith), λ e. ap (λ (m : Model). m.waiting) kept.1 ∙ c.loop-settlement.invariant.1 e)
+    (kept.0 ∙ c.loop-settlement.invariant.0, λ e. (let yes = c.is_full.ensures.1 e in let no = c.if-not-is_full.true in let z : ◌≡◌ {A = ℕ} 0 1 = cc in omega arith), λ e. ap (λ (m : Model). m.waiting) kept.1 ∙ c.loop-settlement.invariant.1 e)

@@ -4,8 +4,8 @@ use Rattle.shipping.proofs.options.Reading.read.Goals as goal
 
 pub returns-in-Some : goal.returns-in-Some
 returns-in-Some c =
-    at_number c.args.self.now.awaits c.in-Some.key c.args.word.now (so_far c.args.self.now) (so_far c.read-number.new.self) c.read-number.result c.in-Some.is c.read-number.ensures
+    at_number c.args.self.now.awaits c.in-Some.key c.args.word.now (so_far c.args.self.now) (so_far c.read_number.new.self) c.read_number.result c.in-Some.is c.read_number.ensures
 
-pub returns-in-None-key-of : goal.returns-in-None-key-of
-returns-in-None-key-of c =
-    at_file c.args.self.now.awaits c.args.word.now (so_far c.args.self.now) (so_far c.read-file.new.self) c.read-file.result c.in-None.is c.in-None-key-of.ensures c.read-file.ensures
+pub returns-in-None-key_of : goal.returns-in-None-key_of
+returns-in-None-key_of c =
+    at_file c.args.self.now.awaits c.args.word.now (so_far c.args.self.now) (so_far c.read_file.new.self) c.read_file.result c.in-None.is c.in-None-key_of.ensures c.read_file.ensures

@@ -6,9 +6,9 @@ use Rattle.shipping.proofs.options.Reading.read_file.Goals as goal
 pub returns : goal.returns
 returns c =
     let s = c.args.self.now in
-    let p = c.in-ok-read-parcel.field-0 in (
+    let p = c.in_ok-read_parcel.field-0 in (
       wanted p,
-      c.in-ok-read-parcel.ensures,
+      c.in_ok-read_parcel.ensures,
       ap (λ (ps : List Wanted). record { frame = s.frame; credit = s.credit; awaits = s.awaits; parcels = ps })
-          (ap (map wanted) c.in-ok-push.ensures.items ∙ map_push wanted (vec_items s.parcels) p),
+          (ap (map wanted) c.in_ok-push.ensures.items ∙ map_push wanted (vec_items s.parcels) p),
     )
