@@ -47,7 +47,7 @@ impl Drop for Widened<'_> {
 
 // The size of the transfer with the widest delivery id, and `more` set.
 pub fn measure<E: Encoder>(transfer: &mut Transfer, encoder: &E) -> usize
-    ensures size { result ≡ measured (bytes encoder.now) transfer.old }
+    ensures size { result ≡ measured (E.bytes encoder.now) transfer.old }
     ensures kept { transfer.new ≡ transfer.old }
 {
     let delivery_id = transfer.delivery_id;

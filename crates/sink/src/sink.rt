@@ -33,7 +33,7 @@ pub trait Sink {
 
 // What a sink would answer to `count` frames, the widest of `width` bytes.
 pub fn ask_room<S: Sink>(sink: &S, width: usize, count: usize) -> Result<(), SinkError>
-    ensures { result ≡ answer (fault_at (model sink.now) width count) }
+    ensures { result ≡ answer (fault_at (S.model sink.now) width count) }
 {
     if let Some(reason) = sink.stop_reason() {
         return Err(SinkError::SessionStopped(reason));

@@ -61,7 +61,7 @@ pub fn split<S: Sink>(
     handle: u32,
     transfer: &Transfer,
 ) -> Result<(), SinkError>
-    ensures { Split (model sink.old) message.now (max 1 share) handle transfer.now result (model sink.new) }
+    ensures { Split (S.model sink.old) message.now (max 1 share) handle transfer.now result (S.model sink.new) }
 {
     cut(sink, message, share.max(1), handle, transfer)
 }
@@ -74,7 +74,7 @@ fn cut<S: Sink>(
     transfer: &Transfer,
 ) -> Result<(), SinkError>
     requires { 0 < share }
-    ensures { Split (model sink.old) message.now share handle transfer.now result (model sink.new) }
+    ensures { Split (S.model sink.old) message.now share handle transfer.now result (S.model sink.new) }
 {
     let count = frames_needed(message.len(), share);
     ask_room(sink, share.min(message.len()), count)?;

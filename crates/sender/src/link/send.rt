@@ -90,7 +90,7 @@ impl<'a> SenderLink<'a> {
         pool: &[u8],
         message: &Sendable,
     ) -> Result<Plan, SendError>
-        ensures { result ≡ planned (view self.now) (bytes encoder.now) pool.now message.now }
+        ensures { result ≡ planned (view self.now) (E.bytes encoder.now) pool.now message.now }
     {
         if !self.is_ready() {
             return Err(SendError::LinkState(LinkStateError::IllegalState));
@@ -153,7 +153,7 @@ impl<'a> SenderLink<'a> {
         requires place { message.now.place.start + message.now.place.len ≤ length pool.now }
         requires absent { plan.now.settled ≡ false → tag_there (next_tag (view self.old)) (view self.old) ≡ false }
         requires room { plan.now.settled ≡ false → table_full (view self.old) ≡ false }
-        ensures { HandedOver (view self.old) plan.now message.now pool.now (model sink.old) result (view self.new) (model sink.new) }
+        ensures { HandedOver (view self.old) plan.now message.now pool.now (S.model sink.old) result (view self.new) (S.model sink.new) }
     {
         let end = message.place.start + message.place.len;
         split(
@@ -182,8 +182,8 @@ impl<'a> SenderLink<'a> {
         pool: &[u8],
         message: &Sendable,
     ) -> Result<Settlement, SendError>
-        ensures sends { Sends (view self.old) (carrier (bytes encoder.now) pool.now (model sink.old)) message.now result (view self.new) (model sink.new) }
-        ensures no_delivery_lost_or_ended_twice { SafeAfter (view self.old) (Send (carrier (bytes encoder.now) pool.now (model sink.old)) message.now) (view self.new) }
+        ensures sends { Sends (view self.old) (carrier (E.bytes encoder.now) pool.now (S.model sink.old)) message.now result (view self.new) (S.model sink.new) }
+        ensures no_delivery_lost_or_ended_twice { SafeAfter (view self.old) (Send (carrier (E.bytes encoder.now) pool.now (S.model sink.old)) message.now) (view self.new) }
     {
         self.send_payload(sink, encoder, pool, message)
     }
@@ -195,7 +195,7 @@ impl<'a> SenderLink<'a> {
         pool: &[u8],
         message: &Sendable,
     ) -> Result<Settlement, SendError>
-        ensures { Sends (view self.old) (carrier (bytes encoder.now) pool.now (model sink.old)) message.now result (view self.new) (model sink.new) }
+        ensures { Sends (view self.old) (carrier (E.bytes encoder.now) pool.now (S.model sink.old)) message.now result (view self.new) (S.model sink.new) }
     {
         let plan = self.may_send(encoder, pool, message)?;
         self.do_send(sink, pool, message, &plan)

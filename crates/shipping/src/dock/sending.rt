@@ -70,7 +70,7 @@ impl<'a> Dock<'a> {
     }
 
     fn try_send<E: Encoder>(&mut self, encoder: &E, message: &[u8]) -> Result<Settlement, SendError>
-        ensures { Sends (link_of self.old) (carrier (bytes encoder.now) message.now (queue_of self.old)) (plain (length message.now)) result (link_of self.new) (queue_of self.new) }
+        ensures { Sends (link_of self.old) (carrier (E.bytes encoder.now) message.now (queue_of self.old)) (plain (length message.now)) result (link_of self.new) (queue_of self.new) }
     {
         let sendable = Sendable {
             place: Place {
@@ -91,7 +91,7 @@ impl<'a> Dock<'a> {
         encoder: &E,
         message: &[u8],
     ) -> Result<Settlement, ShipError>
-        ensures { Sending (link_of self.old) (bytes encoder.now) message.now (queue_of self.old) result (link_of self.new) (queue_of self.new) }
+        ensures { Sending (link_of self.old) (E.bytes encoder.now) message.now (queue_of self.old) result (link_of self.new) (queue_of self.new) }
     {
         loop {
             match self.try_send(encoder, message) {
@@ -112,7 +112,7 @@ impl<'a> Dock<'a> {
         encoder: &E,
         message: &[u8],
     ) -> Result<Settlement, ShipError>
-        ensures { SendingAgain (link_of self.old) (bytes encoder.now) message.now (queue_of self.old) result (link_of self.new) (queue_of self.new) }
+        ensures { SendingAgain (link_of self.old) (E.bytes encoder.now) message.now (queue_of self.old) result (link_of self.new) (queue_of self.new) }
     {
         match self.send_in_room(encoder, message) {
             Ok(settlement) => Ok(settlement),

@@ -64,7 +64,7 @@ impl<'a> Dock<'a> {
         encoder: &E,
         message: &[u8],
     ) -> Result<Shipment, ShipError>
-        ensures { AtRest (link_of self.old) (queue_of self.old) → Shipping (link_of self.old) (bytes encoder.now) message.now result (link_of self.new) (queue_of self.new) }
+        ensures { AtRest (link_of self.old) (queue_of self.old) → Shipping (link_of self.old) (E.bytes encoder.now) message.now result (link_of self.new) (queue_of self.new) }
     {
         match self.send(encoder, message) {
             Ok(settlement) => match settlement {
@@ -77,7 +77,7 @@ impl<'a> Dock<'a> {
 
     // Ships a file. Where no delivery is under way before, it is accepted, or refused and nothing is under way.
     pub fn ship<E: Encoder>(&mut self, encoder: &E, file: &[u8]) -> Result<Shipment, ShipError>
-        ensures { AtRest (link_of self.old) (queue_of self.old) → Shipping (link_of self.old) (bytes encoder.now) (data_section file.now) result (link_of self.new) (queue_of self.new) }
+        ensures { AtRest (link_of self.old) (queue_of self.old) → Shipping (link_of self.old) (E.bytes encoder.now) (data_section file.now) result (link_of self.new) (queue_of self.new) }
     {
         match data_section(self.heap, file) {
             Ok(message) => self.ship_message(encoder, message.as_slice()),

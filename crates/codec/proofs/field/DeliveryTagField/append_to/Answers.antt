@@ -18,12 +18,12 @@ part n all t e own = let z : n - 0 ≡ length (tag_bytes t) = omega arith in rw 
 pub append_sized-requires : goal.append_sized-requires
 append_sized-requires c =
     let s = short c.args.self.now in
-    let p = part _ _ c.args.self.now c.len.ensures c.bytes-all.ensures.own_val in
+    let p = part _ _ c.args.self.now c.len.ensures c.bytes-all.ensures.own in
     search rules
 
 pub returns : goal.returns
 unfolding step
 returns c =
     let s = short c.args.self.now in
-    let p = part _ _ c.args.self.now c.len.ensures c.bytes-all.ensures.own_val in
+    let p = part _ _ c.args.self.now c.len.ensures c.bytes-all.ensures.own in
     search rules

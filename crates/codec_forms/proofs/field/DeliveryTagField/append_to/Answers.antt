@@ -21,13 +21,13 @@ part n all t e own = let z : n - 0 ≡ length (tag_bytes t) = omega arith in rw 
 pub append-requires : goal.append-requires
 append-requires g c =
     let s = short c.args.self.now in
-    let p = part _ _ c.args.self.now c.len-len.ensures c.bytes-all.ensures.own_val in
+    let p = part _ _ c.args.self.now c.len-len.ensures c.bytes-all.ensures.own in
     search rules
 
 pub returns : goal.returns
 unfolding step
 returns g c =
     let s = short c.args.self.now in
-    let p = part _ _ c.args.self.now c.len-len.ensures c.bytes-all.ensures.own_val in
+    let p = part _ _ c.args.self.now c.len-len.ensures c.bytes-all.ensures.own in
     let a = append_assoc (held c.begin.new.self.bytes) (g.F.Form.form.binaries (length (tag_bytes c.args.self.now))) (tag_bytes c.args.self.now) in
     search rules
