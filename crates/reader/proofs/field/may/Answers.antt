@@ -6,14 +6,14 @@ pub returns-in_err-next : goal.returns-in_err-next
 unfolding may_at
 returns-in_err-next g c = search rules
 
-pub returns-in_err-x : goal.returns-in_err-x
+pub returns-in_err-x-in-None : goal.returns-in_err-x-in-None
 unfolding may_at
-returns-in_err-x g c = search rules
+returns-in_err-x-in-None g c = search rules
 
 pub returns-in-Some : goal.returns-in-Some
 unfolding may_at
 returns-in-Some g c = search rules
 
-pub returns-in_ok-x : goal.returns-in_ok-x
+pub returns-in_ok-x-in-None : goal.returns-in_ok-x-in-None
 unfolding may_at
-returns-in_ok-x g c = search rules
+returns-in_ok-x-in-None g c = search rules

@@ -29,7 +29,11 @@ invariant_of-self c =
     let q = c.args.self.now in
     let ps = q.places in
     let s = c.slot_at-s.ensures.value ∙ ap (λ k. slot k q.head q.used) c.len.ensures in
-    (q.room, ((q.ring.0, omega (arith, c.requires.place)), (put_sized ps.items ps.len q.widest q.head q.used c.slot_at-s.result _ ps.ok.0 (omega (arith, q.ring.0, c.requires.place)) c.requires.place q.sized (omega (arith, c.requires.narrow)) s, tt)))
+    record {
+      room = q.room;
+      ring = (q.ring.0, omega (arith, c.requires.place));
+      sized = put_sized ps.items ps.len q.widest q.head q.used c.slot_at-s.result _ ps.ok.0 (omega (arith, q.ring.0, c.requires.place)) c.requires.place q.sized (omega (arith, c.requires.narrow)) s;
+    }
 
 pub returns : goal.returns
 returns c =

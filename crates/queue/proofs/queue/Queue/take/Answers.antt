@@ -38,7 +38,11 @@ invariant_of-self-2 c =
     let q = c.args.self.now in
     let ps = q.places in
     let s = c.slot_at-self.ensures.value ∙ ap (λ k. slot k q.head 1) c.len.ensures in
-    (q.room, ((omega (arith, c.slot_at-self.ensures.inside, c.len.ensures), omega (arith, q.ring)), (rw s (rest_sized ps.items ps.len q.widest q.head q.used q.sized), tt)))
+    record {
+      room = q.room;
+      ring = (omega (arith, c.slot_at-self.ensures.inside, c.len.ensures), omega (arith, q.ring));
+      sized = rw s (rest_sized ps.items ps.len q.widest q.head q.used q.sized);
+    }
 
 pub returns : goal.returns
 returns c =
