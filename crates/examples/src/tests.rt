@@ -9,7 +9,7 @@ use link::seat::Seat;
 use link::settings::Settings;
 use queue::place::Place as QueuePlace;
 use queue::queue::Queue;
-use sender::link::SenderLink;
+use sender::sender_link::SenderLink;
 use sender::ticket::Settlement;
 use std::alloc::Global;
 use std::test::Fail;

@@ -6,7 +6,7 @@ use Rattle.link.specs.Views.{View, made, bad_sizes, fresh}
 use Rattle.runs.specs.Runs.{Making}
 use Rattle.runs.specs.Safe.{Begun}
 use Rattle.runs.proofs.Runs.{begun}
-use Rattle.sender.specs.declared.link.SenderLink.{SenderLink}
+use Rattle.sender.specs.declared.sender_link.SenderLink.{SenderLink}
 use Rattle.sender.specs.Views.{view, viewed}
 
 fresh_one : (b : Bool) (v w : View) → Ok v ≡ cond b (Err Sizes) (Ok w) → v ≡ w

@@ -10,7 +10,7 @@ use Rattle.link.specs.Sending.{Carrier, Sent, payload, share_for, own_rows, sink
 use Rattle.link.specs.Turns.{Turn, landed, stay}
 use Rattle.link.specs.Views.{View}
 use Rattle.link.proofs.Rows.{first_some, first_none, first_alone, after_same, accepted_not}
-use Rattle.sender.specs.declared.link.send.Plan.{Plan}
+use Rattle.sender.specs.declared.sender_link.send.Plan.{Plan}
 use Rattle.sender.specs.Sends.{plan_of}
 
 -- ---- from the two halves of a send to the whole

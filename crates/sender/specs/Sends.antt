@@ -11,7 +11,7 @@ use Rattle.link.specs.Seats.{sit}
 use Rattle.link.specs.Sending.{Carrier, carrier, Sent, ticket, settled, message, payload, goes_settled, transfer_of, share_for, first_sent, next_number, with_table, entry_rows, own_rows, sink_row, send_refusal, answer_as, send_answer, sent_as, cut, frames_needed, sent_frames}
 use Rattle.link.specs.Turns.{landed}
 use Rattle.link.specs.Views.{View}
-use Rattle.sender.specs.declared.link.send.Plan.{Plan}
+use Rattle.sender.specs.declared.sender_link.send.Plan.{Plan}
 use Rattle.sender.specs.declared.ticket.Settlement.{Settlement}
 use Rattle.sender.specs.declared.ticket.Settlement.TheVariants as settlement
 

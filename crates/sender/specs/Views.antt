@@ -6,7 +6,7 @@ use Rattle.unsettled.specs.Worklists.{items, space}
 use Rattle.link.specs.declared.settings.Settings.{Settings}
 use Rattle.link.specs.Seats.{seated}
 use Rattle.link.specs.Views.{View, Rooms}
-use Rattle.sender.specs.declared.link.SenderLink.{SenderLink}
+use Rattle.sender.specs.declared.sender_link.SenderLink.{SenderLink}
 
 abbrev pub rooms_of : (table resume resend : ℕ) → Rooms
 rooms_of table resume resend = record { table = table; resume = resume; resend = resend }

@@ -1,5 +1,5 @@
 // The sender link.
 #![tactic(auto)]
 
-pub mod link;
+pub mod sender_link;
 pub mod ticket;

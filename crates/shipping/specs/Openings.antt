@@ -9,7 +9,7 @@ use Rattle.link.specs.declared.seat.Seat.TheVariants.{Free}
 use Rattle.link.specs.declared.settings.Settings.{Settings}
 use Rattle.link.specs.declared.state.LinkState.TheVariants.{Attached}
 use Rattle.link.specs.Views.{View, Rooms, empty, bad_sizes}
-use Rattle.sender.specs.declared.link.SenderLink.{SenderLink}
+use Rattle.sender.specs.declared.sender_link.SenderLink.{SenderLink}
 use Rattle.sender.specs.Views.{rooms_of, view}
 use Rattle.shipping.specs.declared.dock.Dock.{Dock}
 use Rattle.shipping.specs.declared.dock.opening.LinkMemory.{LinkMemory}

@@ -1,7 +1,7 @@
 // Where files are shipped: a link, the queue of its frames, and the archive that reads them.
 use crate::archive::Archive;
 use queue::queue::Queue;
-use sender::link::SenderLink;
+use sender::sender_link::SenderLink;
 use std::alloc::Global;
 
 pub mod opening;

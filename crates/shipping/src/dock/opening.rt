@@ -16,7 +16,7 @@ use link::seat::Seat;
 use link::settings::Settings;
 use queue::place::Place as QueuePlace;
 use queue::queue::Queue;
-use sender::link::SenderLink;
+use sender::sender_link::SenderLink;
 use std::alloc::{AllocError, Global};
 use unsettled::message::{Place, UnsettledMessage};
 use unsettled::peer::PeerDelivery;

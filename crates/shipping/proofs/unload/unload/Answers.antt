@@ -4,7 +4,7 @@ use Rattle.shipping.specs.Archives.{intake_of}
 use Rattle.shipping.proofs.Taking.{Onward, onward}
 use Rattle.shipping.proofs.unload.unload.Goals as goal
 
-taken_on : (c : goal.In-ok-receive) → Onward (model_of c.loop-frame.queue) (model_of c.take.new.self) c.loop-frame.out c.take.new.out (intake_of c.loop-frame.archive) (intake_of c.receive.new.self)
+taken_on : (c : goal.In_ok-receive) → Onward (model_of c.loop-frame.queue) (model_of c.take.new.self) c.loop-frame.out c.take.new.out (intake_of c.loop-frame.archive) (intake_of c.receive.new.self)
 taken_on c =
     let n : c.in-Some.frame.len - 0 ≡ c.in-Some.frame.len = omega arith in
     let told = c.in_ok-frame.ensures in

@@ -11,11 +11,11 @@ returns-in-Ok g c =
 
 pub loop-settlement-smaller : goal.loop-settlement-smaller
 loop-settlement-smaller g c =
-    fed _ _ _ _ _ _ _ _ (c.is_full.ensures.0 c.if-not-is_full.false) c.in-Err.ensures c.in_ok-make_room.ensures.queue
+    fed _ _ _ _ _ _ _ _ (c.is_full.ensures.0 c.if-not-is_full.false) c.in-Err.ensures c.in_ok-make_room-in-Err.ensures.queue
 
 pub loop-settlement-preserved : goal.loop-settlement-preserved
 loop-settlement-preserved g c =
-    let after = c.in_ok-make_room.ensures in
+    let after = c.in_ok-make_room-in-Err.ensures in
     let kept = stayed _ _ _ _ _ _ c.in-Err.ensures in
     (after.link ∙ kept.0 ∙ c.loop-settlement.invariant.0, λ e. ap (λ (m : Model). m.waiting) after.queue ∙ roomier_none (queue_of c.try_send.new.self))
 

@@ -6,7 +6,7 @@ use Rattle.sender.specs.Views.{view}
 use Rattle.sender.specs.Sends.{answered, plan_of}
 use Rattle.link.proofs.Sending.{clear, carries}
 use Rattle.sender.proofs.Sending.{refused_answer, refused_link, refused_sink, refused_carries, whole_answer, whole_link, whole_sink}
-use Rattle.sender.proofs.link.SenderLink.send_payload.Goals as goal
+use Rattle.sender.proofs.sender_link.SenderLink.send_payload.Goals as goal
 
 pub returns-in_err-plan : goal.returns-in_err-plan
 returns-in_err-plan g c =

@@ -2,7 +2,7 @@ use Rattle.std.proofs.Common.{refl, rules}
 use Rattle.link.specs.Calls.{Look}
 use Rattle.runs.proofs.Runs.{safe_after}
 use Rattle.sender.specs.Views.{view}
-use Rattle.sender.proofs.link.SenderLink.look.Goals as goal
+use Rattle.sender.proofs.sender_link.SenderLink.look.Goals as goal
 
 pub returns : goal.returns
 returns c =

@@ -1,5 +1,5 @@
 use Rattle.runs.proofs.Runs.{safe_after}
-use Rattle.sender.proofs.link.SenderLink.disposition.Goals as goal
+use Rattle.sender.proofs.sender_link.SenderLink.disposition.Goals as goal
 
 pub returns : goal.returns
 returns c =

@@ -1,7 +1,7 @@
 use Rattle.std.proofs.Common.{length, arith}
 use Rattle.sender.specs.Views.{rooms_of}
 use Rattle.sender.proofs.Making.{begins}
-use Rattle.sender.proofs.link.SenderLink.new.Goals as goal
+use Rattle.sender.proofs.sender_link.SenderLink.new.Goals as goal
 
 pub returns : goal.returns
 returns c =

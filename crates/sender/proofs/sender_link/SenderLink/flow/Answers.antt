@@ -1,7 +1,7 @@
 use Rattle.runs.proofs.Runs.{safe_after}
-use Rattle.sender.proofs.link.SenderLink.attach.Goals as goal
+use Rattle.sender.proofs.sender_link.SenderLink.flow.Goals as goal
 
 pub returns : goal.returns
 returns c =
-    let e = c.on_incoming_attach.ensures in
+    let e = c.on_incoming_flow.ensures in
     record { answer = e.answer; link = e.link; no_delivery_lost_or_ended_twice = safe_after _ _ _ e.link }

@@ -3,7 +3,7 @@ use Rattle.link.specs.Attaching.{attach_refusal, late_refusal, attached_state, e
 use Rattle.link.proofs.Rows.{err_by, gated_err, gated_ok}
 use Rattle.sender.specs.Views.{view}
 use Rattle.sender.proofs.Attaching.{refused_answer, refused_link, late_answer, done_answer, moved_link}
-use Rattle.sender.proofs.link.SenderLink.on_incoming_attach.Goals as goal
+use Rattle.sender.proofs.sender_link.SenderLink.on_incoming_attach.Goals as goal
 
 pub returns-in_err-self : goal.returns-in_err-self
 returns-in_err-self c =

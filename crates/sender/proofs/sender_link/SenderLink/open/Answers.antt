@@ -1,7 +1,7 @@
 use Rattle.runs.proofs.Runs.{safe_after}
-use Rattle.sender.proofs.link.SenderLink.collect.Goals as goal
+use Rattle.sender.proofs.sender_link.SenderLink.open.Goals as goal
 
 pub returns : goal.returns
 returns c =
-    let e = c.redeem.ensures in
+    let e = c.send_attach.ensures in
     record { answer = e.answer; link = e.link; no_delivery_lost_or_ended_twice = safe_after _ _ _ e.link }
