@@ -5,20 +5,26 @@ mod run;
 
 use crate::run::{Stop, run};
 use std::io::BufReader;
+use std::process::ExitCode;
 use std::{env, fs};
 
-// `error: WHAT` on standard error, and then status 1.
-fn main(rt: HostRuntime) -> Result<(), Stop> {
-    let outcome = match env::args(&rt)?.nth(1) {
+fn start(rt: &HostRuntime) -> Result<(), Stop> {
+    match env::args(rt)?.nth(1) {
         Some(path) => {
-            let file = fs::open(&rt, path.as_str())?;
-            run(&rt, BufReader::new(rt.alloc(), file)?)
+            let file = fs::open(rt, path.as_str())?;
+            run(rt, BufReader::new(rt.alloc(), file)?)
         }
-        None => run(&rt, BufReader::new(rt.alloc(), rt.stdin())?),
-    };
-    if let Err(stop) = outcome {
-        let _ = eprintln!(rt; "error: {stop}");
-        return Err(stop);
+        None => run(rt, BufReader::new(rt.alloc(), rt.stdin())?),
     }
-    Ok(())
+}
+
+// `error: WHAT` on standard error, and then status 1.
+fn main(rt: HostRuntime) -> ExitCode {
+    match start(&rt) {
+        Ok(()) => ExitCode::SUCCESS,
+        Err(stop) => {
+            let _ = eprintln!(rt; "error: {stop}");
+            ExitCode::FAILURE
+        }
+    }
 }

@@ -6,6 +6,7 @@ use shipping::dock::Dock;
 use shipping::dock::opening::LinkMemory;
 use shipping::options::{Options, parse};
 use shipping::report::{ShipError, Totals};
+use std::process::ExitCode;
 use std::{env, fmt, fs, io};
 
 const USAGE: &str = "usage: ship [--frame N] [--credit N] SHELF=FILE ...
@@ -86,13 +87,20 @@ fn words(rt: &HostRuntime) -> io::Result<Vec<String>> {
     Ok(env::args(rt)?.skip(1).collect(rt.alloc())?)
 }
 
-fn main(rt: HostRuntime) -> Result<(), Failed> {
-    let words = match words(&rt) {
+fn start(rt: &HostRuntime) -> Result<(), Failed> {
+    let words = match words(rt) {
         Ok(words) => words,
-        Err(e) => return Err(fail(&rt, e)),
+        Err(e) => return Err(fail(rt, e)),
     };
     match parse(rt.alloc(), words.as_slice()) {
-        Ok(options) => run(&rt, &options),
-        Err(e) => Err(fail(&rt, e)),
+        Ok(options) => run(rt, &options),
+        Err(e) => Err(fail(rt, e)),
+    }
+}
+
+fn main(rt: HostRuntime) -> ExitCode {
+    match start(&rt) {
+        Ok(()) => ExitCode::SUCCESS,
+        Err(Failed) => ExitCode::FAILURE,
     }
 }
