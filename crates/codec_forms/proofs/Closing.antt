@@ -3,7 +3,7 @@ use Rattle.std.proofs.Common.{◌≡◌, ℕ, ◌+◌, ◌≤◌, Bool, true, fa
 use Rattle.std.proofs.lemmas.List.{append-nil, replicate_more}
 use Rattle.std.proofs.lemmas.Bool.{false≢true}
 use Rattle.codec_forms.specs.Amqp.{Val, Vals, nil, cons, null, bool, uint, ulong, binary, symbol, list, described}
-use Rattle.codec_forms.specs.Form.{Form, encoded, kept, absent, keep, concat, list_of}
+use Rattle.codec_forms.specs.Form.{Form, encoded, kept, absent, keep, concat}
 use Rattle.codec_forms.specs.Bodies.{Met, none_met, skipped, added, step, steps, closed, whole, written_gap}
 
 -- t is s with these fields, each given by its bytes, met after it

@@ -1,8 +1,8 @@
 -- The bytes of a value, at most 255, mean what the form keeps of it.
-use Rattle.std.proofs.Common.{◌≡◌, ℕ, suc, ◌+◌, ◌<◌, ◌≤◌, Bool, true, false, cond, List, [], ◌∷◌, length, refl, ap, arith}
+use Rattle.std.proofs.Common.{◌≡◌, ℕ, suc, ◌≤◌, Bool, true, false, List, [], ◌∷◌, length, refl, ap, arith}
 use Rattle.std.proofs.lemmas.List.{length-append, length-take}
 use Rattle.codec_forms.specs.Amqp.{Val, Vals, nil, cons, count, null, bool, uint, ulong, binary, symbol, list, described, Means, MeanAll, none, more, null_40, described_00}
-use Rattle.codec_forms.specs.Form.{Form, encoded, kept, absent, left_out, keep, concat, list_of}
+use Rattle.codec_forms.specs.Form.{Form, encoded, kept, left_out, keep, concat, list_of}
 use Rattle.codec_forms.specs.Laws.{Lawful}
 use Rattle.codec_forms.specs.Meaning.{keep_value, kept_of, all_kept, Ranged, AllRanged}
 use Rattle.codec_forms.specs.Bodies.{Encodes}

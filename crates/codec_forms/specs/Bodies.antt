@@ -1,5 +1,5 @@
 -- A list's fields as they are met one by one.
-use Rattle.std.specs.Prelude.{◌≡◌, ℕ, ◌+◌, ◌<◌, ◌≤◌, Bool, true, false, cond, List, [], ◌∷◌, ◌++◌, length, take, replicate}
+use Rattle.std.specs.Prelude.{◌≡◌, ℕ, ◌+◌, ◌<◌, ◌≤◌, cond, List, [], ◌∷◌, ◌++◌, length, take, replicate}
 use Rattle.codec_forms.specs.Amqp.{Val, Vals, nil, cons}
 use Rattle.codec_forms.specs.Form.{Form, encoded, absent}
 use Rattle.codec_forms.specs.Meaning.{Ranged}

@@ -1,10 +1,9 @@
 -- Both forms are lawful.
 use Rattle.std.specs.Prelude.{◌≡◌, ℕ, ◌+◌, ◌<◌, ◌≤◌, Bool, true, false, cond, List, [], ◌∷◌, ◌++◌, length, ◌==◌, nat_lt, refl}
-use Rattle.std.proofs.Common.{append_assoc, arith, lit≤}
-use Rattle.std.proofs.lemmas.List.{length-append}
+use Rattle.std.proofs.Common.{arith, lit≤}
 use Rattle.std.proofs.lemmas.Bool.{eqb-true, ltb-true, eq-eqb, ne_eqb, false≢true}
 use Rattle.amqp.specs.Tags.{be4}
-use Rattle.codec_forms.specs.Amqp.{Val, Vals, nil, cons, count, bool, uint, ulong, binary, symbol, list, be8, Means, MeanAll, none, more, true_41, false_42, true_56, false_56, uint_43, uint_52, uint_70, ulong_44, ulong_53, ulong_80, binary_a0, binary_b0, symbol_a3, symbol_b3, list_45, list_c0, list_d0}
+use Rattle.codec_forms.specs.Amqp.{Val, Vals, nil, cons, count, bool, uint, ulong, list, be8, Means, MeanAll, none, true_41, false_42, true_56, false_56, uint_43, uint_52, uint_70, ulong_44, ulong_53, ulong_80, binary_a0, binary_b0, symbol_a3, symbol_b3, list_45, list_c0, list_d0}
 use Rattle.codec_forms.specs.Compact.{compact_form}
 use Rattle.codec_forms.specs.Wide.{wide_form}
 use Rattle.codec_forms.specs.Laws.{Lawful}

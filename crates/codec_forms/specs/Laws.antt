@@ -1,6 +1,6 @@
 -- What a form has to keep.
 use Rattle.std.specs.Prelude.{◌≡◌, ℕ, ◌^◌, ◌<◌, ◌≤◌, Bool, true, List, ◌++◌, length}
-use Rattle.codec_forms.specs.Amqp.{Val, Vals, count, bool, uint, ulong, binary, symbol, list, Means, MeanAll}
+use Rattle.codec_forms.specs.Amqp.{Vals, count, bool, uint, ulong, binary, symbol, list, Means, MeanAll}
 use Rattle.codec_forms.specs.Form.{Form}
 
 -- its bytes mean the values, by AMQP's codes

@@ -1,17 +1,17 @@
 -- The fields of a list, one at a time: what stands there is read.
-use Rattle.std.specs.Prelude.{◌≡◌, ℕ, suc, ◌+◌, ◌-◌, ◌<◌, ◌≤◌, Bool, true, false, cond, List, [], ◌∷◌, length, Some, None, Ok, Err, Option, Result, ◌==◌, nat_lt, slice_index}
+use Rattle.std.specs.Prelude.{◌≡◌, ℕ, ◌+◌, ◌-◌, Bool, true, false, cond, List, [], ◌∷◌, length, Some, None, Ok, Option, ◌==◌, nat_lt, slice_index}
 use Rattle.std.proofs.Math.Path.{refl}
-use Rattle.std.proofs.Common.{sym, arith}
+use Rattle.std.proofs.Common.{arith}
 use Rattle.std.proofs.lemmas.List.{length-append}
 use Rattle.std.proofs.lemmas.Bool.{lt-ltb, ne_eqb, eq-eqb}
-use Rattle.codec_forms.specs.Amqp.{Val, Vals, nil, cons, null, bool}
+use Rattle.codec_forms.specs.Amqp.{Val, Vals, nil, cons, null}
 use Rattle.codec_forms.specs.Form.{encoded, kept, absent, left_out, keep, concat}
 use Rattle.codec_forms.specs.Values.{optional, flag}
 use Rattle.reader.specs.declared.cursor.Cursor.{Cursor}
 use Rattle.reader.specs.Places.{Reader, Has, then}
 use Rattle.reader.specs.Fields.{must_at, absent_at, may_at, null_at, set_of, flag_at}
 use Rattle.reader.specs.Reading.{Reading}
-use Rattle.reader.specs.Fits.{Within, Any}
+use Rattle.reader.specs.Fits.{Within}
 use Rattle.reader.specs.Laws.{Tail, Left, Item, Lawful}
 use Rattle.reader.specs.Having.{has_split}
 

@@ -1,15 +1,15 @@
 -- The compact form is read back.
-use Rattle.std.specs.Prelude.{◌≡◌, ℕ, suc, ◌+◌, ◌^◌, ◌<◌, ◌≤◌, Bool, true, false, cond, List, [], ◌∷◌, ◌++◌, length, Ok, Err, ◌==◌, ◌≢◌, nat_eq, nat_lt, slice_index, refl}
+use Rattle.std.specs.Prelude.{◌≡◌, ℕ, suc, ◌+◌, ◌<◌, ◌≤◌, Bool, true, false, cond, List, [], ◌∷◌, ◌++◌, length, Ok, ◌==◌, ◌≢◌, nat_eq, nat_lt, slice_index, refl}
 use Rattle.std.proofs.Common.{sym, ◌∙◌, arith}
 use Rattle.std.proofs.lemmas.Bool.{eqb-true, lt-ltb, le-ltb, ne_eqb, eq-eqb, false≢true}
 use Rattle.amqp.specs.Tags.{be4}
 use Rattle.codec_forms.specs.Amqp.{Val, Vals, nil, cons, count, null, bool, uint, ulong, binary, symbol, list, described, be8}
-use Rattle.codec_forms.specs.Form.{encoded, kept, absent, left_out, keep, concat, list_of}
+use Rattle.codec_forms.specs.Form.{encoded, kept, absent, keep, concat, list_of}
 use Rattle.codec_forms.specs.Compact.{compact_form}
 use Rattle.reader.specs.declared.cursor.Cursor.{Cursor}
 use Rattle.reader.specs.Places.{Reader, Has, number4, number8}
 use Rattle.reader.specs.Compact.{large_at, number_at, compact_bool_at, compact_sized_at, compact_list_at, compact_reading}
-use Rattle.reader.specs.Laws.{Tail, Left, Lawful}
+use Rattle.reader.specs.Laws.{Tail, Lawful}
 use Rattle.reader.specs.Having.{within}
 use Rattle.reader.specs.Digits.{four, eight}
 

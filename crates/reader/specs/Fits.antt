@@ -1,5 +1,5 @@
 -- Headers whose numbers fit their types, with tags that have no bytes but their own.
-use Rattle.std.specs.Prelude.{ℕ, ◌^◌, ◌<◌, Some, None, Option}
+use Rattle.std.specs.Prelude.{◌^◌, ◌<◌, Some, None, Option}
 use Rattle.amqp.specs.Tags.{Canonical}
 use Rattle.amqp.specs.declared.state.DeliveryState.{DeliveryState}
 use Rattle.amqp.specs.declared.state.DeliveryState.TheVariants.{Received, Accepted, Rejected, Released, Modified}

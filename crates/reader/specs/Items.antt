@@ -1,7 +1,7 @@
 -- Tags, conditions and states that were written are read back.
-use Rattle.std.specs.Prelude.{◌≡◌, ℕ, ◌+◌, ◌^◌, ◌<◌, ◌≤◌, Bool, true, false, eqb, List, [], length, get_or, Some, None, Ok, Err, Option, Result}
+use Rattle.std.specs.Prelude.{◌≡◌, ℕ, ◌+◌, ◌<◌, ◌≤◌, Bool, false, List, length, Some, None, Ok, Option, Result}
 use Rattle.std.proofs.Math.Path.{refl}
-use Rattle.std.proofs.Common.{sym, ap, ◌∙◌, arith, lit≤}
+use Rattle.std.proofs.Common.{arith, lit≤}
 use Rattle.std.proofs.lemmas.List.{length-append, length-take-le}
 use Rattle.std.proofs.lemmas.Bool.{lt-ltb, le-ltb}
 use Rattle.amqp.specs.Tags.{all_bytes, tag_bytes, Canonical}
@@ -11,11 +11,11 @@ use Rattle.amqp.specs.declared.state.Received.{Received as Reached}
 use Rattle.amqp.specs.declared.state.DeliveryState.{DeliveryState}
 use Rattle.amqp.specs.declared.state.DeliveryState.TheVariants.{Received, Accepted, Rejected, Released, Modified}
 use Rattle.amqp.specs.declared.tag.DeliveryTag.{DeliveryTag}
-use Rattle.codec_forms.specs.Amqp.{Val, Vals, nil, cons, count, null, bool, uint, ulong, symbol, list, described}
+use Rattle.codec_forms.specs.Amqp.{Val, Vals, nil, cons, count, null, uint, ulong, symbol, list, described}
 use Rattle.codec_forms.specs.Form.{encoded, kept, absent}
 use Rattle.codec_forms.specs.Values.{optional, tag_value, condition_name, error_value, error_fields, received_fields, modified_fields, state_value}
 use Rattle.reader.specs.declared.cursor.Cursor.{Cursor}
-use Rattle.reader.specs.Places.{Found, Reader, Has, then}
+use Rattle.reader.specs.Places.{Reader, Has, then}
 use Rattle.reader.specs.Reading.{Reading}
 use Rattle.reader.specs.States.{condition_of, tag_at, name_at, described_at, error_at, received_at, rejected_at, modified_at, plain_at, state_by, state_at}
 use Rattle.reader.specs.Fits.{Within, Any, StateFits}

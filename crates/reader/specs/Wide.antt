@@ -1,5 +1,5 @@
 -- How the wide form is read.
-use Rattle.std.specs.Prelude.{ℕ, ◌+◌, Bool, true, false, cond, List, length, Ok, Err, Result, ◌==◌, slice_index}
+use Rattle.std.specs.Prelude.{ℕ, ◌+◌, Bool, true, false, cond, List, Ok, Err, Result, ◌==◌, slice_index}
 use Rattle.codec_forms.specs.Wide.{wide_form}
 use Rattle.reader.specs.declared.cursor.Cursor.{Cursor}
 use Rattle.reader.specs.Places.{Found, Reader, then, coded_at, sized_of, number4, number8}

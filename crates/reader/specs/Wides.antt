@@ -1,15 +1,15 @@
 -- The wide form is read back.
-use Rattle.std.specs.Prelude.{◌≡◌, ℕ, suc, ◌+◌, ◌^◌, ◌<◌, ◌≤◌, Bool, true, false, cond, List, [], ◌∷◌, ◌++◌, length, Ok, Err, Result, slice_index, refl}
-use Rattle.std.proofs.Common.{append_assoc, sym, ap, ◌∙◌, arith}
+use Rattle.std.specs.Prelude.{◌≡◌, ℕ, suc, ◌+◌, ◌^◌, ◌<◌, ◌≤◌, Bool, true, false, cond, List, [], ◌∷◌, ◌++◌, length, Ok, slice_index, refl}
+use Rattle.std.proofs.Common.{sym, ap, arith}
 use Rattle.std.proofs.lemmas.Bool.{lt-ltb, le-ltb, eq-eqb, false≢true}
 use Rattle.amqp.specs.Tags.{be4}
 use Rattle.codec_forms.specs.Amqp.{Val, Vals, nil, cons, count, null, bool, uint, ulong, binary, symbol, list, described, be8}
-use Rattle.codec_forms.specs.Form.{encoded, kept, absent, concat, list_of}
+use Rattle.codec_forms.specs.Form.{encoded, kept, absent, concat}
 use Rattle.codec_forms.specs.Wide.{wide_form}
 use Rattle.reader.specs.declared.cursor.Cursor.{Cursor}
-use Rattle.reader.specs.Places.{Has, coded_at, number4}
+use Rattle.reader.specs.Places.{Has, coded_at}
 use Rattle.reader.specs.Wide.{wide_uint_at, wide_ulong_at, truth_of, wide_bool_at, wide_sized_at, wide_list_at, wide_reading}
-use Rattle.reader.specs.Laws.{Tail, Left, Lawful}
+use Rattle.reader.specs.Laws.{Left, Lawful}
 use Rattle.reader.specs.Having.{within, has_split}
 use Rattle.reader.specs.Digits.{four, eight}
 use Rattle.reader.specs.Compacts.{Full, first}

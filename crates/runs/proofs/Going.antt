@@ -1,5 +1,5 @@
 -- What a call puts is what it ought to put.
-use Rattle.std.proofs.Common.{◌≡◌, ℕ, zero, suc, ◌+◌, ◌-◌, ◌*◌, ◌/◌, ◌<◌, ◌≤◌, max, Bool, true, false, ltb, List, [], ◌∷◌, map, length, drop, is_some, Some, None, Option, sym, refl, ap, ◌∙◌, subst, true≢false, add-one, arith}
+use Rattle.std.proofs.Common.{◌≡◌, ℕ, zero, suc, ◌+◌, ◌-◌, ◌*◌, ◌/◌, ◌≤◌, max, Bool, true, false, ltb, List, [], map, length, drop, is_some, Some, None, Option, sym, refl, ap, subst, true≢false, add-one, arith}
 use Rattle.std.specs.List.{range_with_len}
 use Rattle.std.proofs.lemmas.List.{length-take, length-drop}
 use Rattle.std.proofs.lemmas.Bool.{lt-ltb, le-ltb}
@@ -8,10 +8,9 @@ use Rattle.amqp.specs.declared.header.FrameKind.{FrameKind}
 use Rattle.amqp.specs.declared.header.FrameKind.TheVariants.{First, Continuation}
 use Rattle.amqp.specs.declared.header.Transfer.{Transfer}
 use Rattle.sink.specs.Cuts.{count_of, kind_at, part, frame_at, frames_of}
-use Rattle.sink.specs.Frames.{Frame}
 use Rattle.sink.proofs.Cutting.{whole, part_fits}
 use Rattle.link.specs.declared.delivery.Sendable.{Sendable}
-use Rattle.link.specs.Calls.{Call, Open, Attach, Flow, Send, Disposition, Look, Collect, refused, put_by}
+use Rattle.link.specs.Calls.{Call, Open, Attach, Flow, Send, Disposition, Look, Collect, put_by}
 use Rattle.link.specs.Credit.{or_else}
 use Rattle.link.specs.Rows.{unless}
 use Rattle.link.specs.Sending.{Carrier, payload, transfer_of, share_for, send_refusal, sent_frames}

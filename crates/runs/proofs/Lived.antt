@@ -1,5 +1,5 @@
 -- Every delivery stands as its life says, after every run.
-use Rattle.std.proofs.Common.{◌≡◌, ℕ, ◌+◌, ◌<◌, ◌≤◌, Bool, true, false, cond, ◌||◌, eqb, List, [], ◌∷◌, ◌++◌, is_some, Some, None, Option, sym, refl, ap, ◌∙◌, subst, arith}
+use Rattle.std.proofs.Common.{◌≡◌, ℕ, ◌≤◌, Bool, true, false, cond, ◌||◌, List, [], ◌∷◌, is_some, Some, None, Option, refl, ap, ◌∙◌, arith}
 use Rattle.std.proofs.lemmas.Bool.{ne_eqb}
 use Rattle.amqp.specs.declared.error.SendError.{SendError}
 use Rattle.link.specs.declared.delivery.Outcome.{Outcome}
@@ -17,7 +17,7 @@ use Rattle.link.specs.Rows.{unless, gated}
 use Rattle.link.specs.Sending.{Carrier, goes_settled, next_number, send_refusal, sent, sent_as, answer_as, sent_answer, first_sent}
 use Rattle.link.specs.Turns.{Turn, stay}
 use Rattle.link.specs.Views.{View, Entry}
-use Rattle.runs.specs.Lives.{Where, in_table, in-resume-list, in-resend-list, Life, unborn, standing, over, from_unborn, from_table, next_life, life, sent_life, of, AsLived, born}
+use Rattle.runs.specs.Lives.{in_table, in-resume-list, in-resend-list, Life, unborn, standing, over, from_unborn, from_table, next_life, life, sent_life, of, AsLived, born}
 use Rattle.runs.specs.Runs.{Run, made, ◌▹◌, ◌then◌, after, gives, given, ticket_in}
 use Rattle.runs.proofs.Onward.{Onward, among, outcomes, unmoved, send_onward, disposed_onward}
 use Rattle.runs.proofs.Sound.{Sound, steady, sound, either}

@@ -1,7 +1,7 @@
 -- What stands under a number after a call is what the call makes of its life.
-use Rattle.std.proofs.Common.{◌≡◌, ℕ, ◌+◌, ◌≤◌, Bool, true, false, cond, not, ◌||◌, eqb, List, [], ◌∷◌, ◌++◌, length, Some, None, Option, sym, refl, ap, ◌∙◌, subst, arith}
+use Rattle.std.proofs.Common.{◌≡◌, ℕ, ◌+◌, ◌≤◌, Bool, true, false, cond, ◌||◌, eqb, List, [], ◌∷◌, ◌++◌, length, Some, None, Option, sym, refl, ap, ◌∙◌, subst, arith}
 use Rattle.std.proofs.lemmas.List.{append-nil}
-use Rattle.std.proofs.lemmas.Bool.{eqb-true, eq-eqb}
+use Rattle.std.proofs.lemmas.Bool.{eqb-true}
 use Rattle.amqp.specs.declared.state.DeliveryState.{DeliveryState}
 use Rattle.amqp.specs.declared.tag.DeliveryTag.{DeliveryTag}
 use Rattle.unsettled.specs.declared.message.UnsettledMessage.{UnsettledMessage}
@@ -14,9 +14,9 @@ use Rattle.link.specs.Outcomes.{ended, recorded, outcome_of}
 use Rattle.link.specs.Sending.{first_sent, next_number, sent_as}
 use Rattle.link.specs.Turns.{Turn, End}
 use Rattle.link.specs.Views.{View, Held, Entry}
-use Rattle.runs.specs.Lives.{Where, in_table, in-resume-list, in-resend-list, Life, unborn, standing, over, sent_life, told, disposed_life, of, listed, stands_in, AsLived, born}
+use Rattle.runs.specs.Lives.{in_table, in-resume-list, in-resend-list, Life, unborn, standing, over, sent_life, disposed_life, of, listed, stands_in, AsLived, born}
 use Rattle.runs.specs.Runs.{one}
-use Rattle.runs.proofs.Tables.{found, exchanged, without, look_found, put_found, swap_found}
+use Rattle.runs.proofs.Tables.{found, look_found, put_found, swap_found}
 use Rattle.runs.proofs.Entries.{tally, of_++, found_tag, found_none, exchange_other, without_other, found_has, found_one, exchange_it, without_it, found_other}
 
 -- the outcome that a life ended with

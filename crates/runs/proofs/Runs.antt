@@ -1,5 +1,5 @@
 -- Every run is safe, and so is every call on a link that a run led to.
-use Rattle.std.proofs.Common.{◌≡◌, sym, refl, ap, ◌∙◌, subst}
+use Rattle.std.proofs.Common.{◌≡◌, sym, ap, ◌∙◌, subst}
 use Rattle.link.specs.Calls.{Call, step}
 use Rattle.link.specs.Views.{View}
 use Rattle.runs.specs.Runs.{Run, Making, made, ◌▹◌, after}

@@ -1,23 +1,22 @@
 -- What every link of a run keeps: no tag stands twice in its table, and its count does not wrap.
-use Rattle.std.proofs.Common.{◌≡◌, ℕ, ◌+◌, ◌-◌, ◌%◌, ◌^◌, ◌<◌, ◌≤◌, min, Bool, true, false, cond, ◌||◌, List, [], ◌∷◌, ◌++◌, is_some, Some, None, Option, sym, refl, ap, ◌∙◌, subst, arith}
+use Rattle.std.proofs.Common.{◌≡◌, ℕ, ◌+◌, ◌<◌, ◌≤◌, Bool, true, false, ◌||◌, [], ◌∷◌, ◌++◌, is_some, Some, None, Option, sym, refl, ap, ◌∙◌, subst, arith}
 use Rattle.amqp.specs.declared.state.DeliveryState.{DeliveryState}
 use Rattle.amqp.specs.declared.tag.DeliveryTag.{DeliveryTag}
 use Rattle.unsettled.specs.declared.message.UnsettledMessage.{UnsettledMessage}
 use Rattle.unsettled.specs.Tables.{same_tag, look, entry_of, place}
 use Rattle.unsettled.proofs.Same.{same_tag_decides}
 use Rattle.link.specs.declared.delivery.Sendable.{Sendable}
-use Rattle.link.specs.declared.flow.LinkFlow.{LinkFlow}
 use Rattle.link.specs.declared.flow.LinkFlowState.{LinkFlowState}
 use Rattle.link.specs.Attaching.{open_refusal, opened, attach_refusal, attached}
-use Rattle.link.specs.Calls.{Call, Open, Attach, Flow, Send, Disposition, Look, Collect, turn, step}
-use Rattle.link.specs.Credit.{credit_after, drained, flowed, or_else}
+use Rattle.link.specs.Calls.{Call, Open, Attach, Flow, Send, Disposition, Look, Collect, turn}
+use Rattle.link.specs.Credit.{credit_after, drained}
 use Rattle.link.specs.Disposing.{disposed, disposed_at, disposed_as, recording}
 use Rattle.link.specs.Outcomes.{ended}
 use Rattle.link.specs.Rows.{unless}
 use Rattle.link.specs.Sending.{Carrier, first_sent, goes_settled, next_tag, tag_there, send_refusal, sent, sent_as}
 use Rattle.link.specs.Turns.{Turn, stay}
 use Rattle.link.specs.Views.{View, Entry}
-use Rattle.link.proofs.Sending.{Clear, clear, own_clear}
+use Rattle.link.proofs.Sending.{clear, own_clear}
 use Rattle.runs.specs.Runs.{Run, made, ◌▹◌, after, one}
 use Rattle.runs.proofs.Tables.{found, look_found, put_found, swap_found}
 use Rattle.runs.proofs.Entries.{tally, tally_++, tally_absent, tally_without, tally_exchange}

@@ -1,5 +1,5 @@
 -- What the seats tell is what the lives say.
-use Rattle.std.proofs.Common.{◌≡◌, ℕ, zero, suc, ◌+◌, ◌≤◌, Bool, true, false, not, eqb, List, [], ◌∷◌, ◌++◌, length, replicate, is_some, Some, None, Ok, Option, sym, refl, ap, ◌∙◌, subst, arith}
+use Rattle.std.proofs.Common.{◌≡◌, ℕ, zero, suc, ◌+◌, ◌≤◌, Bool, true, false, eqb, List, [], ◌∷◌, ◌++◌, length, replicate, is_some, Some, None, Ok, Option, sym, refl, ap, ◌∙◌, arith}
 use Rattle.std.proofs.lemmas.Bool.{not-false, eqb-true}
 use Rattle.amqp.specs.declared.error.SendError.{SendError}
 use Rattle.link.specs.declared.delivery.Outcome.{Outcome}
@@ -11,8 +11,8 @@ use Rattle.link.specs.Calls.{Call, Open, Attach, Flow, Send, Disposition, Look, 
 use Rattle.link.specs.Disposing.{looked, seat_answer}
 use Rattle.link.specs.Rows.{unless}
 use Rattle.link.specs.Seats.{seat_of, place_by, is_free}
-use Rattle.link.specs.Sending.{Carrier, goes_settled, next_number, no_seat, send_refusal, sent, sent_as}
-use Rattle.link.specs.Turns.{Turn, stay, sit_all, tell_all}
+use Rattle.link.specs.Sending.{Carrier, goes_settled, next_number, send_refusal, sent, sent_as}
+use Rattle.link.specs.Turns.{stay, sit_all, tell_all}
 use Rattle.link.specs.Views.{View}
 use Rattle.link.proofs.Sending.{clear, own_clear}
 use Rattle.runs.specs.Lives.{Life, unborn, standing, over, life, born, progress}

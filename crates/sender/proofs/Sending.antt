@@ -1,7 +1,6 @@
 -- What may be sent, what a send carries, and the two halves of a send joined.
 use Rattle.std.proofs.Common.{◌≡◌, [], ◌∷◌, Some, None, Err, Option, Result, sym, refl, ap, ◌∙◌, subst}
 use Rattle.amqp.specs.declared.error.SendError.{SendError}
-use Rattle.amqp.specs.declared.error.SendError.TheVariants as fault
 use Rattle.sink.specs.Frames.{Model, After}
 use Rattle.link.specs.declared.delivery.Sendable.{Sendable}
 use Rattle.link.specs.Calls.{Send, step}

@@ -3,7 +3,7 @@ use Rattle.std.proofs.Common.{◌≡◌, ℕ, zero, suc, ◌+◌, ◌-◌, ◌/�
 use Rattle.std.proofs.lemmas.List.{append-nil}
 use Rattle.std.specs.List.{range_with_len, flat_map}
 use Rattle.amqp.specs.declared.header.Transfer.{Transfer}
-use Rattle.sink.specs.Cuts.{count_of, frame_at, frames_of, payload_of}
+use Rattle.sink.specs.Cuts.{frame_at, frames_of, payload_of}
 use Rattle.sink.specs.Frames.{Frame}
 use Rattle.shipping.specs.Archives.{Intake, took_all}
 

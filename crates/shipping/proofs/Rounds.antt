@@ -1,23 +1,19 @@
 -- A delivery's round: sent, told to be accepted, and collected, on a link that was at rest.
-use Rattle.std.proofs.Common.{◌≡◌, ℕ, suc, true, false, eqb, List, [], ◌∷◌, ◌++◌, length, replicate, Some, None, Ok, Err, Result, sym, refl, ap, ◌∙◌, subst, arith}
+use Rattle.std.proofs.Common.{◌≡◌, ℕ, suc, true, eqb, [], replicate, Some, Ok, refl, arith}
 use Rattle.std.proofs.lemmas.Bool.Decides.{nat_tests}
 use Rattle.amqp.specs.declared.mode.SenderSettleMode.TheVariants.{Unsettled}
 use Rattle.amqp.specs.declared.state.DeliveryState.TheVariants.{Accepted}
 use Rattle.amqp.specs.declared.tag.DeliveryTag.{DeliveryTag}
-use Rattle.unsettled.specs.Tables.{same_tag, look, swap_removed}
+use Rattle.unsettled.specs.Tables.{same_tag}
 use Rattle.unsettled.proofs.Same.{same_tag_decides}
-use Rattle.link.specs.declared.delivery.Outcome.{Outcome}
 use Rattle.link.specs.declared.delivery.Outcome.TheVariants.{State}
 use Rattle.link.specs.declared.delivery.Progress.TheVariants as progress
-use Rattle.link.specs.declared.delivery.Sendable.{Sendable}
-use Rattle.link.specs.declared.seat.Seat.{Seat}
-use Rattle.link.specs.declared.seat.Seat.TheVariants.{Free, Pending, Ended}
+use Rattle.link.specs.declared.seat.Seat.TheVariants.{Free}
 use Rattle.link.specs.Calls.{Disposition, Collect, step}
 use Rattle.link.specs.Disposing.{looked}
-use Rattle.link.specs.Seats.{tell, vacate, seat_of}
 use Rattle.link.specs.Sending.{next_number, next_tag, sent}
 use Rattle.link.specs.Turns.{landed}
-use Rattle.link.specs.Views.{View, Entry}
+use Rattle.link.specs.Views.{View}
 use Rattle.shipping.specs.Docks.{plain}
 
 same : (t : DeliveryTag) → same_tag t t ≡ true

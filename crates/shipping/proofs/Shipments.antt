@@ -1,5 +1,5 @@
 -- What a message that was sent from rest comes to.
-use Rattle.std.proofs.Common.{◌≡◌, ℕ, suc, true, List, [], length, replicate, Some, Ok, Err, Option, Result, sym, ap, ◌∙◌, arith}
+use Rattle.std.proofs.Common.{◌≡◌, ℕ, true, List, [], length, Some, Ok, Err, Result, ap, ◌∙◌, arith}
 use Rattle.amqp.specs.declared.error.TicketError.{TicketError}
 use Rattle.amqp.specs.declared.header.Header.{Header}
 use Rattle.amqp.specs.declared.mode.SenderSettleMode.TheVariants.{Unsettled as never}
@@ -9,7 +9,6 @@ use Rattle.sink.specs.Frames.{Model}
 use Rattle.link.specs.declared.delivery.Outcome.TheVariants.{State}
 use Rattle.link.specs.declared.delivery.Progress.{Progress}
 use Rattle.link.specs.declared.delivery.Progress.TheVariants.{Ended}
-use Rattle.link.specs.declared.seat.Seat.TheVariants.{Free}
 use Rattle.link.specs.Calls.{Disposition, Collect, step}
 use Rattle.link.specs.Disposing.{looked}
 use Rattle.link.specs.Sending.{next_number, next_tag, sent_answer}
@@ -20,8 +19,8 @@ use Rattle.sender.specs.Sends.{answered}
 use Rattle.shipping.specs.declared.report.ShipError.{ShipError}
 use Rattle.shipping.specs.declared.report.ShipError.TheVariants.{Refused, NoMemory, Link}
 use Rattle.shipping.specs.declared.report.Shipment.{Shipment}
-use Rattle.shipping.specs.Archives.{Intake, took_all}
-use Rattle.shipping.specs.Docks.{plain, frames_for, Gone, Alike, Settled, Settling, AtRest, Shipped, Shipping}
+use Rattle.shipping.specs.Archives.{Intake}
+use Rattle.shipping.specs.Docks.{plain, frames_for, Gone, Alike, Settled, Settling, AtRest, Shipping}
 use Rattle.shipping.proofs.Rounds.{ended, round, tells_accepted, table_empty, seats_free, settings_kept}
 
 -- a link that is like one at rest but for its credit

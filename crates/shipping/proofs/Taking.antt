@@ -1,11 +1,11 @@
 -- One frame after the other is taken from a queue.
-use Rattle.std.proofs.Common.{◌≡◌, ℕ, ◌+◌, ◌-◌, ◌<◌, ◌≤◌, Bool, true, false, cond, ltb, List, [], ◌∷◌, ◌++◌, length, take, drop, Some, None, Ok, Err, Result, sym, refl, ap, ◌∙◌, arith}
+use Rattle.std.proofs.Common.{◌≡◌, ℕ, ◌+◌, Bool, true, false, cond, ltb, List, [], ◌∷◌, ◌++◌, length, take, drop, Some, Ok, Err, refl, ap, ◌∙◌, arith}
 use Rattle.std.proofs.lemmas.List.{length-append, length-drop, take-append-le, take_all}
 use Rattle.std.proofs.lemmas.Bool.{ltb-false}
 use Rattle.amqp.specs.declared.error.MemoryError.TheVariants.{TooShort}
 use Rattle.sink.specs.Frames.{Frame, Model}
 use Rattle.queue.specs.declared.queue.reading.Taken.{Taken}
-use Rattle.queue.specs.Reading.{taken, taken_of, freed, left, left_of, read_into}
+use Rattle.queue.specs.Reading.{taken, taken_of, freed, left_of, read_into}
 use Rattle.shipping.specs.Archives.{Intake, took, took_all}
 use Rattle.shipping.specs.Unloading.{emptied}
 

@@ -2,7 +2,6 @@
 use Rattle.std.proofs.Common.{◌≡◌, ℕ, zero, suc, ◌+◌, ◌<◌, ◌≤◌, Bool, true, false, cond, eqb, ◌⊎◌, List, [], ◌∷◌, ◌++◌, map, length, get_or, take, drop, Some, None, Ok, Err, Option, Result, sym, refl, ap, ◌∙◌, subst, inl, inr, ⊎_elim, arith, drop-cons, rules, MatchResult}
 use Rattle.std.proofs.lemmas.List.{length-map, get_or-map, take_more, take_all, take-append-drop}
 use Rattle.shipping.specs.declared.options.Key.{Key}
-use Rattle.shipping.specs.declared.options.Key.TheVariants.{Frame, Credit}
 use Rattle.shipping.specs.declared.options.Options.{Options}
 use Rattle.shipping.specs.declared.options.Parcel.{Parcel}
 use Rattle.shipping.specs.declared.options.UsageError.{UsageError}

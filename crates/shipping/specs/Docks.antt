@@ -1,5 +1,5 @@
 -- A dock: its link and its queue, how a message goes out by them, and what becomes of it.
-use Rattle.std.specs.Prelude.{◌≡◌, ℕ, suc, ◌*◌, min, max, true, false, cond, List, [], length, replicate, Some, None, Ok, Err, Option, Result, ◌==◌, ◌≢◌}
+use Rattle.std.specs.Prelude.{◌≡◌, ℕ, suc, ◌*◌, min, max, true, false, cond, List, [], length, replicate, Some, None, Ok, Err, Result, ◌==◌, ◌≢◌}
 use Rattle.amqp.specs.declared.error.SendError.TheVariants.{SinkFull}
 use Rattle.amqp.specs.declared.error.TicketError.{TicketError}
 use Rattle.amqp.specs.declared.error.TicketError.TheVariants.{NoSeat}
@@ -15,7 +15,7 @@ use Rattle.link.specs.declared.delivery.Progress.{Progress}
 use Rattle.link.specs.declared.delivery.Progress.TheVariants.{Ended}
 use Rattle.link.specs.declared.delivery.Sendable.{Sendable}
 use Rattle.link.specs.declared.seat.Seat.TheVariants.{Free}
-use Rattle.link.specs.Calls.{Flow, Disposition, Collect, step}
+use Rattle.link.specs.Calls.{Disposition, Collect, step}
 use Rattle.link.specs.Disposing.{looked}
 use Rattle.link.specs.Sending.{carrier, next_number, next_tag, sent, sent_answer, share_for, frames_needed}
 use Rattle.link.specs.Turns.{landed}
@@ -28,7 +28,7 @@ use Rattle.shipping.specs.declared.report.OutOfMemory.{OutOfMemory}
 use Rattle.shipping.specs.declared.report.ShipError.{ShipError}
 use Rattle.shipping.specs.declared.report.ShipError.TheVariants.{Refused, NoMemory, Link}
 use Rattle.shipping.specs.declared.report.Shipment.{Shipment}
-use Rattle.shipping.specs.Archives.{Intake, took_all, granting, Judged}
+use Rattle.shipping.specs.Archives.{Intake, took_all, Judged}
 use Rattle.shipping.specs.Unloading.{emptied}
 
 abbrev pub link_of : Dock → View

@@ -5,7 +5,6 @@ use Rattle.amqp.specs.declared.state.DeliveryState.{DeliveryState}
 use Rattle.amqp.specs.declared.state.DeliveryState.TheVariants.{Received, Accepted, Rejected, Released, Modified}
 use Rattle.amqp.specs.Refusals.{send_number}
 use Rattle.amqp.specs.States.{condition_number}
-use Rattle.link.specs.declared.delivery.Outcome.{Outcome}
 use Rattle.link.specs.declared.delivery.Outcome.TheVariants.{State, NoState}
 use Rattle.link.specs.declared.delivery.Progress.{Progress}
 use Rattle.link.specs.declared.delivery.Progress.TheVariants.{Pending, Ended}

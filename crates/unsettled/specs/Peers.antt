@@ -1,5 +1,5 @@
 -- The tags that a peer's attach brings.
-use Rattle.std.specs.Prelude.{◌≡◌, ℕ, zero, suc, ◌<◌, ◌≤◌, Bool, false, ◌||◌, List, [], length, take, None, ◌≢◌, nat_lt, slice_index_or}
+use Rattle.std.specs.Prelude.{ℕ, zero, suc, ◌<◌, ◌≤◌, Bool, false, ◌||◌, List, [], length, take, None, ◌≢◌, nat_lt, slice_index_or}
 use Rattle.std.specs.Str.{bytes_eq}
 use Rattle.unsettled.specs.declared.peer.PeerDelivery.{PeerDelivery}
 use Rattle.unsettled.specs.Lists.{any}

@@ -1,4 +1,4 @@
-use Rattle.std.proofs.Common.{◌≡◌, ◌*◌, ◌≤◌, length, arith}
+use Rattle.std.proofs.Common.{arith}
 use Rattle.headers_text.proofs.Pairs.{added_none, added_more, added_all}
 use Rattle.headers_text.proofs.hex.decode.Goals as goal
 

@@ -1,4 +1,4 @@
-use Rattle.std.proofs.Common.{refl, arith}
+use Rattle.std.proofs.Common.{refl}
 use Rattle.reader.specs.States.{conditions, condition_of}
 use Rattle.reader.proofs.Names.{found, passed, unknown}
 use Rattle.reader.proofs.state.condition_named.Goals as goal

@@ -1,4 +1,4 @@
-use Rattle.std.proofs.Common.{◌≡◌, ℕ, ◌-◌, ◌≤◌, List, length, take, ap, append_assoc, arith, rules}
+use Rattle.std.proofs.Common.{◌≡◌, ℕ, ◌-◌, ◌≤◌, List, length, take, append_assoc, arith, rules}
 use Rattle.std.proofs.lemmas.List.{length-take}
 use Rattle.amqp.specs.Tags.{all_bytes, tag_bytes}
 use Rattle.amqp.specs.declared.tag.DeliveryTag.{DeliveryTag}

@@ -1,6 +1,5 @@
-use Rattle.std.proofs.Common.{length, append_assoc, arith, rules}
+use Rattle.std.proofs.Common.{length, append_assoc, rules}
 use Rattle.codec_forms.specs.Bodies.{held, step}
-use Rattle.codec_forms.specs.Values.{condition_name}
 use Rattle.codec_forms.proofs.state.ConditionField.append_to.Goals as goal
 
 pub returns : goal.returns

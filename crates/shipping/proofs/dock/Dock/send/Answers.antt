@@ -1,4 +1,4 @@
-use Rattle.std.proofs.Common.{◌≡◌, ap, ◌∙◌}
+use Rattle.std.proofs.Common.{ap, ◌∙◌}
 use Rattle.amqp.specs.declared.error.SendError.TheVariants.{NoCredit}
 use Rattle.sink.specs.Frames.{Model}
 use Rattle.link.specs.Calls.{Flow, step}
