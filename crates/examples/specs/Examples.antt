@@ -1,6 +1,6 @@
 -- Worked examples of credit and of splitting, as one statement over their list.
 use Rattle.std.specs.Prelude.{◌≡◌, ℕ, max, cond, List, [], ◌∷◌, map, length, replicate, Some, None, Option}
-use Rattle.std.specs.List.{AllByRecursion as All}
+use Rattle.std.specs.List.{AllByRecursion}
 use Rattle.amqp.specs.Headers.{measured}
 use Rattle.amqp.specs.Tags.{tag_of}
 use Rattle.codec.specs.Headers.{compact_bytes, plain}
@@ -49,5 +49,5 @@ sendings =
 
 pub record WorkedExamples : Type 0 where
   pub measures : plain_size ≡ 21
-  pub credits : All Granted grants
-  pub splits : All SplitAs sendings
+  pub credits : AllByRecursion Granted grants
+  pub splits : AllByRecursion SplitAs sendings

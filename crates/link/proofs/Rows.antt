@@ -1,6 +1,6 @@
 -- Rows of refusals, and what a clear list of them says.
 use Rattle.std.proofs.Common.{◌≡◌, ℕ, Bool, true, false, List, [], ◌∷◌, ◌++◌, is_err, IsErrAnd, Some, None, Ok, Err, Option, Result, refl, ap, arith}
-use Rattle.std.specs.List.{AllByRecursion as All}
+use Rattle.std.specs.List.{AllByRecursion}
 use Rattle.sink.specs.Frames.{Frame, Model, After}
 use Rattle.link.specs.Rows.{row, first, gated, Accepted}
 
@@ -19,7 +19,7 @@ first_alone None = refl
 first_alone (Some x) = refl
 
 -- where none refuses, each row's test failed
-pub all_none : {E : Type 0} (xs : List (Option E)) → first xs ≡ None → All (λ o. o ≡ None) xs
+pub all_none : {E : Type 0} (xs : List (Option E)) → first xs ≡ None → AllByRecursion (λ o. o ≡ None) xs
 all_none [] h = tt
 all_none (None ∷ xs) h = (refl, all_none xs h)
 all_none (Some x ∷ xs) h = let z : ◌≡◌ {A = ℕ} 0 1 = cc in absurd (omega arith)

@@ -2,7 +2,7 @@
 use Rattle.std.proofs.Common.{◌≡◌, ℕ, ◌+◌, ◌<◌, ◌≤◌, min, max, Bool, true, false, cond, eqb, List, [], ◌∷◌, length, drop, Some, None, Option, refl, ap, arith}
 use Rattle.std.proofs.lemmas.List.{length-take, length-drop}
 use Rattle.std.proofs.lemmas.Bool.Decides.{nat_tests}
-use Rattle.std.specs.List.{AllByRecursion as All}
+use Rattle.std.specs.List.{AllByRecursion}
 use Rattle.amqp.specs.declared.error.SendError.{SendError}
 use Rattle.amqp.specs.declared.error.SendError.TheVariants as fault
 use Rattle.amqp.specs.Headers.{Widest}
@@ -36,7 +36,7 @@ credit_clear : (n : ℕ) → eqb n 0 ≡ false → 0 < n
 credit_clear n h = grind (arith, nat_tests)
 
 -- the rows of an entry are those of an unsettled delivery
-entry_clear : (v : View) (b : Bool) → All (λ o. o ≡ None) (cond b [] (entry_rows v)) → b ≡ false → (table_full v ≡ false) × (tag_there (next_tag v) v ≡ false) × (no_seat v ≡ false)
+entry_clear : (v : View) (b : Bool) → AllByRecursion (λ o. o ≡ None) (cond b [] (entry_rows v)) → b ≡ false → (table_full v ≡ false) × (tag_there (next_tag v) v ≡ false) × (no_seat v ≡ false)
 entry_clear v true h e = let w : ◌≡◌ {A = ℕ} 0 1 = cc in absurd (omega arith)
 entry_clear v false h e =
     (row_off (table_full v) fault.TableFull h.0, row_off (tag_there (next_tag v) v) fault.TagInTable h.1.0, row_off (no_seat v) fault.NoSeat h.1.1.0)

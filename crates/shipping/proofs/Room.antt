@@ -3,7 +3,7 @@ use Rattle.std.proofs.Common.{◌≡◌, ℕ, ◌+◌, ◌-◌, ◌*◌, ◌<◌
 use Rattle.std.proofs.lemmas.Bool.{ltb-true, eqb-true, eqb-false}
 use Rattle.std.proofs.lemmas.Bool.Decides.{nat_tests}
 use Rattle.std.specs.Option.{option_map}
-use Rattle.std.specs.List.{AllByRecursion as All}
+use Rattle.std.specs.List.{AllByRecursion}
 use Rattle.amqp.specs.declared.error.LinkStateError.TheVariants.{IllegalState}
 use Rattle.amqp.specs.declared.error.SendError.{SendError}
 use Rattle.amqp.specs.declared.error.SendError.TheVariants as send
@@ -33,13 +33,13 @@ row_other : (test : Bool) (e : SendError) → eqb (send_number e) 16 ≡ false �
 row_other true e ne h = let same : e ≡ send.SinkFull = cc in eqb-false (send_number e) 16 ne (ap send_number same)
 row_other false e ne h = let z : ◌≡◌ {A = ℕ} 0 1 = cc in omega arith
 
-entry_others : (settled : Bool) (v : View) → All Other (cond settled [] (entry_rows v))
+entry_others : (settled : Bool) (v : View) → AllByRecursion Other (cond settled [] (entry_rows v))
 entry_others true v = tt
 entry_others false v =
     (row_other (table_full v) send.TableFull refl, (row_other (tag_there (next_tag v) v) send.TagInTable refl, (row_other (no_seat v) send.NoSeat refl, tt)))
 
 -- no refusal of the link itself is for want of room
-own_others : (v : View) (c : Carrier) (m : Sendable) → All Other (own_rows v c m)
+own_others : (v : View) (c : Carrier) (m : Sendable) → AllByRecursion Other (own_rows v c m)
 own_others v c m = (
   row_other (not (ready v)) (send.LinkState IllegalState) refl,
   (
@@ -61,7 +61,7 @@ own_others v c m = (
 )
 
 -- so the link refused nothing, and the sink did
-past : (xs : List (Option SendError)) (o : Option SendError) → All Other xs → first (xs ++ o ∷ []) ≡ Some send.SinkFull → All (λ x. x ≡ None) xs × (o ≡ Some send.SinkFull)
+past : (xs : List (Option SendError)) (o : Option SendError) → AllByRecursion Other xs → first (xs ++ o ∷ []) ≡ Some send.SinkFull → AllByRecursion (λ x. x ≡ None) xs × (o ≡ Some send.SinkFull)
 past [] o h e = (tt, sym (first_alone o) ∙ e)
 past (None ∷ xs) o h e = let rest = past xs o h.1 e in ((refl, rest.0), rest.1)
 past (Some x ∷ xs) o h e = absurd (h.0 e)

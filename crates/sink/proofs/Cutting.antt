@@ -2,7 +2,7 @@
 use Rattle.std.proofs.Common.{◌≡◌, ℕ, zero, suc, ◌+◌, ◌-◌, ◌*◌, ◌/◌, ◌<◌, ◌≤◌, min, ltb, List, ◌++◌, map, length, take, drop, None, sym, ap, ◌∙◌, mul-le-mul_right, suc-mul, add-mul, one-mul, zero-mul, div-mul-le_self, arith, take-add}
 use native.Mathlib.Nat.{div-eq_of_lt, lt-div-mul-add}
 use Rattle.std.proofs.lemmas.List.{drop-drop, take_all, length-take, length-drop}
-use Rattle.std.specs.List.{range_with_len, flat_map, AllByRecursion as All}
+use Rattle.std.specs.List.{range_with_len, flat_map, AllByRecursion}
 use Rattle.amqp.specs.declared.header.Header.{Header}
 use Rattle.sink.specs.Frames.{Frame, Model, Grown, fault_at}
 use Rattle.amqp.specs.declared.header.Transfer.{Transfer as Transferring}
@@ -65,7 +65,7 @@ one_fits : (bytes : Header → List ℕ) (h : Transferring) → Widest bytes h �
 one_fits bytes h w handle share size count msg s zero id = omega (arith, w.first id (ltb 1 count), part_fits msg share zero)
 one_fits bytes h w handle share size count msg s (suc i) id = omega (arith, w.later id (ltb (suc i + 1) count), part_fits msg share (suc i))
 
-fit_parts : (bytes : Header → List ℕ) (h : Transferring) → Widest bytes h → (handle share size count : ℕ) (msg : List ℕ) → measured bytes h + min share (length msg) + 4 ≤ size → (a n : ℕ) → All (Fits bytes size) (map (frame_at h handle share count msg) (range_with_len a n))
+fit_parts : (bytes : Header → List ℕ) (h : Transferring) → Widest bytes h → (handle share size count : ℕ) (msg : List ℕ) → measured bytes h + min share (length msg) + 4 ≤ size → (a n : ℕ) → AllByRecursion (Fits bytes size) (map (frame_at h handle share count msg) (range_with_len a n))
 fit_parts bytes h w handle share size count msg s a zero = tt
 fit_parts bytes h w handle share size count msg s a (suc n) = (one_fits bytes h w handle share size count msg s a, fit_parts bytes h w handle share size count msg s (a + 1) n)
 
