@@ -1,5 +1,5 @@
 -- A send of the link in its memory: what is planned, what the second half does by a plan, and all together.
-use Rattle.std.specs.Prelude.{◌≡◌, ℕ, List, [], ◌∷◌, ◌++◌, None, Ok, Err, Result}
+use Rattle.std.specs.Prelude.{◌≡◌, ℕ, false, List, [], ◌∷◌, ◌++◌, None, Ok, Err, Result}
 use Rattle.amqp.specs.declared.error.SendError.{SendError}
 use Rattle.amqp.specs.declared.header.Header.{Header}
 use Rattle.sink.specs.Cuts.{Carries}
@@ -20,6 +20,11 @@ abbrev pub answered : Result Settlement SendError → Result Sent SendError
 answered (Ok (settlement.Settled tag)) = Ok (settled tag)
 answered (Ok (settlement.Unsettled t)) = Ok (ticket t.number)
 answered (Err e) = Err e
+
+-- a ticket in it is yet to be collected
+abbrev pub Uncollected : Settlement → Type 0
+Uncollected (settlement.Settled tag) = Unit {0}
+Uncollected (settlement.Unsettled t) = t.spent ≡ false
 
 -- whether an entry of the next tag can be added
 abbrev pub addable : View → Result (Unit {0}) SendError

@@ -1,10 +1,10 @@
 // Sending a message.
-ghost use Rattle.std.specs.Prelude.{◌≡◌, ◌+◌, ◌≤◌, false, length};
+ghost use Rattle.std.specs.Prelude.{◌≡◌, ◌+◌, ◌≤◌, false, length, IfOk};
 ghost use Rattle.link.specs.Sending.{carrier, ready, busy, narrow, transfer_of, next_tag, tag_there, table_full};
 ghost use Rattle.link.specs.Calls.{Send};
 ghost use Rattle.runs.specs.Safe.{SafeAfter};
 ghost use Rattle.sender.specs.Views.{view};
-ghost use Rattle.sender.specs.Sends.{addable, planned, added, HandedOver, Sends};
+ghost use Rattle.sender.specs.Sends.{addable, planned, added, HandedOver, Sends, Uncollected};
 
 use super::SenderLink;
 use crate::ticket::{Settlement, Ticket};
@@ -153,7 +153,8 @@ impl<'a> SenderLink<'a> {
         requires place { message.now.place.start + message.now.place.len ≤ length pool.now }
         requires absent { plan.now.settled ≡ false → tag_there (next_tag (view self.old)) (view self.old) ≡ false }
         requires room { plan.now.settled ≡ false → table_full (view self.old) ≡ false }
-        ensures { HandedOver (view self.old) plan.now message.now pool.now (S.model sink.old) result (view self.new) (S.model sink.new) }
+        ensures handed_over { HandedOver (view self.old) plan.now message.now pool.now (S.model sink.old) result (view self.new) (S.model sink.new) }
+        ensures uncollected { IfOk result Uncollected }
     {
         let end = message.place.start + message.place.len;
         split(
@@ -170,7 +171,7 @@ impl<'a> SenderLink<'a> {
         } else {
             self.add(message);
             self.flow_state.consume();
-            Ok(Settlement::Unsettled(Ticket { number }))
+            Ok(Settlement::Unsettled(Ticket::new(number)))
         }
     }
 
@@ -183,6 +184,7 @@ impl<'a> SenderLink<'a> {
         message: &Sendable,
     ) -> Result<Settlement, SendError>
         ensures sends { Sends (view self.old) (carrier (E.bytes encoder.now) pool.now (S.model sink.old)) message.now result (view self.new) (S.model sink.new) }
+        ensures uncollected { IfOk result Uncollected }
         ensures no_delivery_lost_or_ended_twice { SafeAfter (view self.old) (Send (carrier (E.bytes encoder.now) pool.now (S.model sink.old)) message.now) (view self.new) }
     {
         self.send_payload(sink, encoder, pool, message)
@@ -195,7 +197,8 @@ impl<'a> SenderLink<'a> {
         pool: &[u8],
         message: &Sendable,
     ) -> Result<Settlement, SendError>
-        ensures { Sends (view self.old) (carrier (E.bytes encoder.now) pool.now (S.model sink.old)) message.now result (view self.new) (S.model sink.new) }
+        ensures sends { Sends (view self.old) (carrier (E.bytes encoder.now) pool.now (S.model sink.old)) message.now result (view self.new) (S.model sink.new) }
+        ensures uncollected { IfOk result Uncollected }
     {
         let plan = self.may_send(encoder, pool, message)?;
         self.do_send(sink, pool, message, &plan)

@@ -4,4 +4,4 @@ use Rattle.sender.proofs.sender_link.SenderLink.send.Goals as goal
 pub returns : goal.returns
 returns g c =
     let e = c.send_payload.ensures in
-    record { sends = e; no_delivery_lost_or_ended_twice = safe_after _ _ _ e.link }
+    record { sends = e.sends; uncollected = e.uncollected; no_delivery_lost_or_ended_twice = safe_after _ _ _ e.sends.link }

@@ -15,11 +15,15 @@ returns-in_err-plan g c =
     let m = c.args.message.now in
     let e = gated_err (first (own_rows v k m)) (plan_of v k m) _ (sym c.in_err-plan.was ∙ c.may_send.ensures) in
     let f = c.from_residual.ensures in
+    let r = err_by c.from_residual.result _ f.0 f.1 in
     record {
-      answer = ap answered (err_by c.from_residual.result _ f.0 f.1) ∙ refused_answer v k m _ e;
-      link = refused_link v k m _ e;
-      sink = refused_sink v k m _ e;
-      carries = refused_carries v k m _ _ e;
+      sends = record {
+        answer = ap answered r ∙ refused_answer v k m _ e;
+        link = refused_link v k m _ e;
+        sink = refused_sink v k m _ e;
+        carries = refused_carries v k m _ _ e;
+      };
+      uncollected = rw r tt;
     }
 
 pub do_send-requires : goal.do_send-requires
@@ -39,9 +43,13 @@ returns g c =
     let m = c.args.message.now in
     let e = gated_ok (first (own_rows v k m)) (plan_of v k m) c.in_ok-plan.plan (sym c.in_ok-plan.was ∙ c.may_send.ensures) in
     let w = g.met.E.Encoder.widest c.args.encoder.now (transfer_of v m) in
+    let d = c.do_send.ensures.handed_over in
     record {
-      answer = whole_answer v k m _ _ e.1 e.0 c.do_send.ensures.answer;
-      link = whole_link v k m _ _ e.1 e.0 c.do_send.ensures.link;
-      sink = whole_sink v k m _ _ e.1 e.0 c.do_send.ensures.sink;
-      carries = accepted (send_refusal v k m) (carries v k m w (clear v k m e.0));
+      sends = record {
+        answer = whole_answer v k m _ _ e.1 e.0 d.answer;
+        link = whole_link v k m _ _ e.1 e.0 d.link;
+        sink = whole_sink v k m _ _ e.1 e.0 d.sink;
+        carries = accepted (send_refusal v k m) (carries v k m w (clear v k m e.0));
+      };
+      uncollected = c.do_send.ensures.uncollected;
     }
