@@ -16,6 +16,7 @@ import sys
 NAME = r"[A-Za-z_][A-Za-z0-9_'+]*(?:-[A-Za-z0-9_'+]+)+"
 RENAMED = re.compile(r"\bas (" + NAME + r")(?=[,};])")
 DECLARED = re.compile(r"^\s*(?:(?:unfoldable|abbrev|pub|data|record)\s+)*(" + NAME + r")\s*(?:[({].*)?:(?!\S)")
+SEVERAL = re.compile(r"^  ((?:[A-Za-z_][A-Za-z0-9_'-]* )+): [A-Z]\w*$")
 TOKEN = re.compile(r"(?<![A-Za-z0-9_'+◌·-])" + NAME + r"(?![A-Za-z0-9_'+◌·-])")
 
 
@@ -50,6 +51,9 @@ def declared(top):
             m = DECLARED.match(line) if path.endswith(".antt") else None
             if m and not re.match(r"\s*:\s*(goal|given)\.", line[m.end(1):]):
                 names.append(m[1])
+            several = SEVERAL.match(line)
+            if several and path.endswith(".antt"):
+                names += [n for n in several[1].split() if "-" in n]
             for name in names:
                 found[name].add(os.path.relpath(path, top))
     return found

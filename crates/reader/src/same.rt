@@ -1,6 +1,6 @@
 // Comparing bytes with those that are written.
 ghost use Rattle.std.specs.Prelude.{◌≡◌, ◌≤◌, length};
-ghost use Rattle.reader.specs.Agree.{agree, same as same_as, past_zeros, only as OnlyOf};
+ghost use Rattle.reader.specs.Agree.{agree, same as same_as, past_zeros, only as only_of};
 
 use amqp::header::Header;
 
@@ -35,7 +35,7 @@ fn before_zeros(src: &[u8], mut at: usize) -> usize
 // The header, if `src` is its bytes; else the place of the first spare byte, or of the first size
 // that is wrong: all of a size before the byte that differs is zero, and its code is not.
 pub(crate) fn only(src: &[u8], bytes: &[u8], header: Header) -> Result<Header, usize>
-    ensures { result ≡ OnlyOf src.now bytes.now header }
+    ensures { result ≡ only_of src.now bytes.now header }
 {
     if same(src, bytes) {
         return Ok(header);

@@ -17,7 +17,7 @@ use Rattle.link.specs.Rows.{unless, gated}
 use Rattle.link.specs.Sending.{Carrier, goes_settled, next_number, send_refusal, sent, sent_as, answer_as, sent_answer, first_sent}
 use Rattle.link.specs.Turns.{Turn, stay}
 use Rattle.link.specs.Views.{View, Entry}
-use Rattle.runs.specs.Lives.{in_table, in-resume-list, in-resend-list, Life, unborn, standing, over, from_unborn, from_table, next_life, life, sent_life, of, AsLived, born}
+use Rattle.runs.specs.Lives.{in_table, in_resume_list, in_resend_list, Life, unborn, standing, over, from_unborn, from_table, next_life, life, sent_life, of, AsLived, born}
 use Rattle.runs.specs.Runs.{Run, made, ◌▹◌, ◌then◌, after, gives, given, ticket_in}
 use Rattle.runs.proofs.Onward.{Onward, among, outcomes, unmoved, send_onward, disposed_onward}
 use Rattle.runs.proofs.Sound.{Sound, steady, sound, either}
@@ -31,8 +31,8 @@ idle n x v u y h e k w b =
 same_life : (v : View) (c : Call) (n : ℕ) → from_unborn v c n ≡ unborn → ((e : Entry) → from_table c e ≡ standing in_table e) → (x : Life) → next_life v c n x ≡ x
 same_life v c n a b unborn = a
 same_life v c n a b (standing in_table e) = b e
-same_life v c n a b (standing in-resume-list e) = refl
-same_life v c n a b (standing in-resend-list e) = refl
+same_life v c n a b (standing in_resume_list e) = refl
+same_life v c n a b (standing in_resend_list e) = refl
 same_life v c n a b (over o) = refl
 
 both : {X : Type 0} (b : Bool) (x y : X) → y ≡ x → cond b x y ≡ x
@@ -48,8 +48,8 @@ sending v c m n x h f None = go x h f
     go : (y : Life) → AsLived n y v.held → (next_number v ≤ n → y ≡ unborn) → Onward n y (sent v m) (next_life v (Send c m) n y)
     go unborn k g = send_onward v m n unborn (goes_settled v m) k g
     go (standing in_table e) k g = send_onward v m n (standing in_table e) (goes_settled v m) k g
-    go (standing in-resume-list e) k g = send_onward v m n (standing in-resume-list e) (goes_settled v m) k g
-    go (standing in-resend-list e) k g = send_onward v m n (standing in-resend-list e) (goes_settled v m) k g
+    go (standing in_resume_list e) k g = send_onward v m n (standing in_resume_list e) (goes_settled v m) k g
+    go (standing in_resend_list e) k g = send_onward v m n (standing in_resend_list e) (goes_settled v m) k g
     go (over o) k g = send_onward v m n (over o) (goes_settled v m) k g
 
 pub onward : (v : View) (c : Call) (n : ℕ) (x : Life) → Sound v → AsLived n x v.held → (next_number v ≤ n → x ≡ unborn)
@@ -69,8 +69,8 @@ onward v (Disposition t b d) n x s h f = go x h
     go : (y : Life) → AsLived n y v.held → Onward n y (turn v (Disposition t b d)) (next_life v (Disposition t b d) n y)
     go unborn k = disposed_onward v n t d b unborn (s.single t) k
     go (standing in_table e) k = disposed_onward v n t d b (standing in_table e) (s.single t) k
-    go (standing in-resume-list e) k = disposed_onward v n t d b (standing in-resume-list e) (s.single t) k
-    go (standing in-resend-list e) k = disposed_onward v n t d b (standing in-resend-list e) (s.single t) k
+    go (standing in_resume_list e) k = disposed_onward v n t d b (standing in_resume_list e) (s.single t) k
+    go (standing in_resend_list e) k = disposed_onward v n t d b (standing in_resend_list e) (s.single t) k
     go (over o) k = disposed_onward v n t d b (over o) (s.single t) k
 onward v (Look k) n x s h f = idle n x v (stay v) _ h (both (refused v (Look k)) x (next_life v (Look k) n x) (same_life v (Look k) n refl (λ _. refl) x)) refl refl refl
 onward v (Collect k) n x s h f = idle n x v (turn v (Collect k)) _ h (both (refused v (Collect k)) x (next_life v (Collect k) n x) (same_life v (Collect k) n refl (λ _. refl) x)) refl refl refl

@@ -14,7 +14,7 @@ use Rattle.link.specs.Outcomes.{ended, recorded, outcome_of}
 use Rattle.link.specs.Sending.{first_sent, next_number, sent_as}
 use Rattle.link.specs.Turns.{Turn, End}
 use Rattle.link.specs.Views.{View, Held, Entry}
-use Rattle.runs.specs.Lives.{in_table, in-resume-list, in-resend-list, Life, unborn, standing, over, sent_life, disposed_life, of, listed, stands_in, AsLived, born}
+use Rattle.runs.specs.Lives.{in_table, in_resume_list, in_resend_list, Life, unborn, standing, over, sent_life, disposed_life, of, listed, stands_in, AsLived, born}
 use Rattle.runs.specs.Runs.{one}
 use Rattle.runs.proofs.Tables.{found, look_found, put_found, swap_found}
 use Rattle.runs.proofs.Entries.{tally, of_++, found_tag, found_none, exchange_other, without_other, found_has, found_one, exchange_it, without_it, found_other}
@@ -47,8 +47,8 @@ unmoved n x h u y k e t r s w b =
     record {
       lived = record {
         table = t ∙ k.table ∙ ap (stands_in in_table) (sym e);
-        resume = ap (λ l. of n (listed l)) r ∙ k.resume ∙ ap (stands_in in-resume-list) (sym e);
-        resend = ap (of n) s ∙ k.resend ∙ ap (stands_in in-resend-list) (sym e);
+        resume = ap (λ l. of n (listed l)) r ∙ k.resume ∙ ap (stands_in in_resume_list) (sym e);
+        resend = ap (of n) s ∙ k.resend ∙ ap (stands_in in_resend_list) (sym e);
       };
       words = ap (λ l. last_word x ++ l) w ∙ append-nil (last_word x) ∙ ap last_word (sym e);
       births = omega (arith, ap born e);
@@ -109,30 +109,30 @@ send_onward v m n x false h f = go (eqb n (next_number v)) refl
 abbrev after_disposal : DeliveryTag → Option DeliveryState → (ends : Bool) → Life → Life
 after_disposal t s b unborn = unborn
 after_disposal t s b (standing in_table e) = cond (same_tag e.tag t) (disposed_life b s e) (standing in_table e)
-after_disposal t s b (standing in-resume-list e) = standing in-resume-list e
-after_disposal t s b (standing in-resend-list e) = standing in-resend-list e
+after_disposal t s b (standing in_resume_list e) = standing in_resume_list e
+after_disposal t s b (standing in_resend_list e) = standing in_resend_list e
 after_disposal t s b (over o) = over o
 
 other_tag : (t : DeliveryTag) (s : Option DeliveryState) (b : Bool) (x : Life) → ((e : Entry) → x ≡ standing in_table e → same_tag e.tag t ≡ false) → after_disposal t s b x ≡ x
 other_tag t s b unborn h = refl
 other_tag t s b (standing in_table e) h = ap (λ c. cond c (disposed_life b s e) (standing in_table e)) (h e refl)
-other_tag t s b (standing in-resume-list e) h = refl
-other_tag t s b (standing in-resend-list e) h = refl
+other_tag t s b (standing in_resume_list e) h = refl
+other_tag t s b (standing in_resend_list e) h = refl
 other_tag t s b (over o) h = refl
 
 -- the life of a number that the table has
 the_one : (x : Life) (es : List Entry) → es ≡ stands_in in_table x → 1 ≤ length es → (e : Entry) × (x ≡ standing in_table e)
 the_one unborn es h k = absurd (omega (arith, ap length h))
 the_one (standing in_table e) es h k = (e, refl)
-the_one (standing in-resume-list e) es h k = absurd (omega (arith, ap length h))
-the_one (standing in-resend-list e) es h k = absurd (omega (arith, ap length h))
+the_one (standing in_resume_list e) es h k = absurd (omega (arith, ap length h))
+the_one (standing in_resend_list e) es h k = absurd (omega (arith, ap length h))
 the_one (over o) es h k = absurd (omega (arith, ap length h))
 
 pub at_most_one : (x : Life) → length (stands_in in_table x) ≤ 1
 at_most_one unborn = omega arith
 at_most_one (standing in_table e) = omega arith
-at_most_one (standing in-resume-list e) = omega arith
-at_most_one (standing in-resend-list e) = omega arith
+at_most_one (standing in_resume_list e) = omega arith
+at_most_one (standing in_resend_list e) = omega arith
 at_most_one (over o) = omega arith
 
 module _ (v : View) (n : ℕ) (t : DeliveryTag) (s : Option DeliveryState) where

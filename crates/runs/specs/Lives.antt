@@ -17,7 +17,7 @@ use Rattle.link.specs.Views.{View, Held, Entry}
 use Rattle.runs.specs.Runs.{Run, made, ◌▹◌, after}
 
 pub data Where : Type 0 where
-  in_table in-resume-list in-resend-list : Where
+  in_table in_resume_list in_resend_list : Where
 
 pub data Life : Type 0 where
   unborn : Life
@@ -60,8 +60,8 @@ from_table (Collect k) e = standing in_table e
 abbrev pub next_life : View → Call → ℕ → Life → Life
 next_life v c n unborn = from_unborn v c n
 next_life v c n (standing in_table e) = from_table c e
-next_life v c n (standing in-resume-list e) = standing in-resume-list e
-next_life v c n (standing in-resend-list e) = standing in-resend-list e
+next_life v c n (standing in_resume_list e) = standing in_resume_list e
+next_life v c n (standing in_resend_list e) = standing in_resend_list e
 next_life v c n (over o) = over o
 
 -- only accepted calls change a life
@@ -87,14 +87,14 @@ listed (Settling t f o ∷ is) = listed is
 
 abbrev same_place : Where → Where → Bool
 same_place in_table in_table = true
-same_place in_table in-resume-list = false
-same_place in_table in-resend-list = false
-same_place in-resume-list in_table = false
-same_place in-resume-list in-resume-list = true
-same_place in-resume-list in-resend-list = false
-same_place in-resend-list in_table = false
-same_place in-resend-list in-resume-list = false
-same_place in-resend-list in-resend-list = true
+same_place in_table in_resume_list = false
+same_place in_table in_resend_list = false
+same_place in_resume_list in_table = false
+same_place in_resume_list in_resume_list = true
+same_place in_resume_list in_resend_list = false
+same_place in_resend_list in_table = false
+same_place in_resend_list in_resume_list = false
+same_place in_resend_list in_resend_list = true
 
 -- what a life has at a place
 abbrev pub stands_in : Where → Life → List Entry
@@ -105,8 +105,8 @@ stands_in w (over o) = []
 -- all that stands under the number, in table and lists, is what its life says: once, or nowhere
 pub record AsLived (n : ℕ) (x : Life) (h : Held) : Type 0 where
   pub table : of n h.table ≡ stands_in in_table x
-  pub resume : of n (listed h.resume) ≡ stands_in in-resume-list x
-  pub resend : of n h.resend ≡ stands_in in-resend-list x
+  pub resume : of n (listed h.resume) ≡ stands_in in_resume_list x
+  pub resend : of n h.resend ≡ stands_in in_resend_list x
 
 -- a life that has begun
 abbrev pub born : Life → ℕ
