@@ -100,7 +100,8 @@ impl DeliveryTag {
 
 // Two tags with the same bytes are one tag, and a count's tag has its four bytes.
 pub fn same_bytes_same_tag() -> u8
-    ensures { SameBytesSameTag }
+    ensures answer { result ≡ 0 }
+    ensures holds { SameBytesSameTag }
 {
     0
 }

@@ -32,7 +32,8 @@ impl Encoder for Compact {
 
 // A new delivery's transfer with handle 0, a tag of 4 bytes and format 0, unsettled, measures 21 bytes.
 pub fn plain_transfer_measures_21() -> u8
-    ensures { PlainMeasures21 }
+    ensures answer { result ≡ 0 }
+    ensures holds { PlainMeasures21 }
 {
     0
 }

@@ -89,14 +89,16 @@ impl Encoder for Compact {
 
 // A compact header is at most 255 bytes long.
 pub fn compact_is_at_most_255() -> u8
-    ensures { AtMost255 compact_bytes }
+    ensures answer { result ≡ 0 }
+    ensures holds { AtMost255 compact_bytes }
 {
     0
 }
 
 // A new delivery's transfer with handle 0, a tag of 4 bytes and format 0, unsettled, measures 21 bytes.
 pub fn plain_transfer_measures_21() -> u8
-    ensures { PlainMeasures21 }
+    ensures answer { result ≡ 0 }
+    ensures holds { PlainMeasures21 }
 {
     0
 }

@@ -77,7 +77,8 @@ impl Encoder for Wide {
 
 // A wide header is at most 255 bytes long.
 pub fn wide_is_at_most_255() -> u8
-    ensures { AtMost255 wide_bytes }
+    ensures answer { result ≡ 0 }
+    ensures holds { AtMost255 wide_bytes }
 {
     0
 }
