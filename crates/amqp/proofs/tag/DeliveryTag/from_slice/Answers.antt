@@ -1,7 +1,9 @@
-use Rattle.std.proofs.Common.{refl}
-use Rattle.amqp.proofs.Words.{made}
+use Rattle.std.proofs.Common.{ℕ, ◌++◌, length, drop, replicate, refl, ap, ◌∙◌}
+use Rattle.amqp.proofs.Tags.{zeros, made}
 use Rattle.amqp.proofs.tag.DeliveryTag.from_slice.Goals as goal
 
 pub returns : goal.returns
 returns c =
-    made _ c.args.s.now c.padded-all.result c.if-s-gt32.false c.padded-all.ensures refl c.word.ensures c.word-2.ensures c.word-3.ensures c.word-4.ensures c.word.type_inv c.word-2.type_inv c.word-3.type_inv c.word-4.type_inv
+    let s = c.args.s.now in
+    made _ s c.if-s-gt32.false refl
+    (ap (λ l. l ++ drop {A = ℕ} (length s) (replicate 32 0)) c.copy_from_slice.ensures.after ∙ ap (λ l. s ++ l) (zeros 0 (length s) c.if-s-gt32.false))
