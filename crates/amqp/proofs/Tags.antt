@@ -21,10 +21,10 @@ same_tags x y kx ky e =
 fewer : (z n m : ℕ) → drop n (replicate (n + m) z) ≡ replicate m z
 fewer z n m = ap (drop n) (sym (replicate-append-replicate n m z)) ∙ drop_at (replicate n z) (replicate m z) n (length-replicate n z)
 
-pub zeros : (z n : ℕ) → n ≤ 32 → drop n (replicate 32 z) ≡ replicate (32 - n) z
+zeros : (z n : ℕ) → n ≤ 32 → drop n (replicate 32 z) ≡ replicate (32 - n) z
 zeros z n h = let e : 32 ≡ n + (32 - n) = omega arith in ap (λ k. drop n (replicate k z)) e ∙ fewer z n (32 - n)
 
-pub made : (t : DeliveryTag) (s : List ℕ) → length s ≤ 32 → t.len ≡ length s → t.bytes ≡ s ++ replicate (32 - length s) 0 → (tag_bytes t ≡ s) × Canonical t
+made : (t : DeliveryTag) (s : List ℕ) → length s ≤ 32 → t.len ≡ length s → t.bytes ≡ s ++ replicate (32 - length s) 0 → (tag_bytes t ≡ s) × Canonical t
 made t s h n e = (
       ap₂ take n e ∙ take_at s _ (length s) refl,
       record {
@@ -33,6 +33,10 @@ made t s h n e = (
         clear = ap₂ drop n e ∙ drop_at s _ (length s) refl ∙ ap (λ k. replicate (32 - k) 0) (sym n);
       },
     )
+
+-- bytes that were copied over zeros
+pub made_over : (t : DeliveryTag) (s : List ℕ) → length s ≤ 32 → t.len ≡ length s → t.bytes ≡ s ++ drop (length s) (replicate 32 0) → (tag_bytes t ≡ s) × Canonical t
+made_over t s h n e = made t s h n (e ∙ ap (λ r. s ++ r) (zeros 0 (length s) h))
 
 pub stands : SameBytesSameTag
 stands = record { one = same_tags; of_count = λ n. made (tag_of n) (be4 n) (omega arith) refl refl }
