@@ -3,7 +3,7 @@ ghost use Rattle.std.specs.Prelude.{◌≡◌, ◌+◌, ◌≤◌, length, Match
 ghost use Rattle.amqp.specs.Tags.{tag_bytes, tag_of, Canonical, SameBytesSameTag};
 
 // Zeros stand past its bytes, so that tags of the same bytes are equal.
-#[derive(Clone, Copy, PartialEq, Eq)]
+#[derive(Clone, Copy, PartialEq, Eq, Default)]
 pub struct DeliveryTag {
     len: u8,
     bytes: [u8; 32],
