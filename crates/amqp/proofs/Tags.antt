@@ -7,11 +7,15 @@ use Rattle.amqp.specs.Tags.{tag_bytes, be4, tag_of, Canonical, SameBytesSameTag}
 tag_ext : (x y : DeliveryTag) → x.len ≡ y.len → x.bytes ≡ y.bytes → x ≡ y
 tag_ext x y l b = λ i. record { len = l i; bytes = b i }
 
+-- a count that is at most 32 counts the bytes
+own : (t : DeliveryTag) → t.len ≤ 32 → tag_bytes t ≡ take t.len t.bytes
+own t h = ap (λ n. take n t.bytes) (omega arith)
+
 padded : (t : DeliveryTag) → Canonical t → t.bytes ≡ tag_bytes t ++ replicate (32 - t.len) 0
-padded t k = sym (take-append-drop t.len t.bytes) ∙ ap (λ r. tag_bytes t ++ r) k.clear
+padded t k = sym (take-append-drop t.len t.bytes) ∙ ap₂ (λ s r. s ++ r) (sym (own t k.short)) k.clear
 
 length_tag : (t : DeliveryTag) → Canonical t → length (tag_bytes t) ≡ t.len
-length_tag t k = length-take-le t.len t.bytes (omega (arith, k.short, k.whole))
+length_tag t k = ap length (own t k.short) ∙ length-take-le t.len t.bytes (omega (arith, k.short, k.whole))
 
 same_tags : (x y : DeliveryTag) → Canonical x → Canonical y → tag_bytes x ≡ tag_bytes y → x ≡ y
 same_tags x y kx ky e =
@@ -26,13 +30,13 @@ zeros z n h = let e : 32 ≡ n + (32 - n) = omega arith in ap (λ k. drop n (rep
 
 made : (t : DeliveryTag) (s : List ℕ) → length s ≤ 32 → t.len ≡ length s → t.bytes ≡ s ++ replicate (32 - length s) 0 → (tag_bytes t ≡ s) × Canonical t
 made t s h n e = (
-      ap₂ take n e ∙ take_at s _ (length s) refl,
-      record {
-        short = omega arith;
-        whole = ap length e ∙ length-append s (replicate (32 - length s) 0) ∙ omega (arith, length-replicate {A = ℕ} (32 - length s) 0);
-        clear = ap₂ drop n e ∙ drop_at s _ (length s) refl ∙ ap (λ k. replicate (32 - k) 0) (sym n);
-      },
-    )
+  own t (omega arith) ∙ ap₂ take n e ∙ take_at s _ (length s) refl,
+  record {
+    short = omega arith;
+    whole = ap length e ∙ length-append s (replicate (32 - length s) 0) ∙ omega (arith, length-replicate {A = ℕ} (32 - length s) 0);
+    clear = ap₂ drop n e ∙ drop_at s _ (length s) refl ∙ ap (λ k. replicate (32 - k) 0) (sym n);
+  },
+)
 
 -- bytes that were copied over zeros
 pub made_over : (t : DeliveryTag) (s : List ℕ) → length s ≤ 32 → t.len ≡ length s → t.bytes ≡ s ++ drop (length s) (replicate 32 0) → (tag_bytes t ≡ s) × Canonical t

@@ -1,9 +1,10 @@
 -- Tags: their bytes, and when two are one.
-use Rattle.std.specs.Prelude.{◌≡◌, ℕ, ◌-◌, ◌/◌, ◌%◌, ◌≤◌, List, [], ◌∷◌, ◌++◌, length, take, drop, replicate}
+use Rattle.std.specs.Prelude.{◌≡◌, ℕ, ◌-◌, ◌/◌, ◌%◌, ◌≤◌, min, List, [], ◌∷◌, ◌++◌, length, take, drop, replicate}
 use Rattle.amqp.specs.declared.tag.DeliveryTag.{DeliveryTag}
 
+-- at most 32 bytes
 abbrev pub tag_bytes : DeliveryTag → List ℕ
-tag_bytes t = take t.len t.bytes
+tag_bytes t = take (min t.len 32) t.bytes
 
 -- a number in four bytes, highest first
 abbrev pub be4 : ℕ → List ℕ
