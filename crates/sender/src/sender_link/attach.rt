@@ -78,17 +78,6 @@ impl<'a> SenderLink<'a> {
         ensures link { view self.new ≡ step (view self.old) (AttachCall attach.now pool.now) }
         ensures no_delivery_lost_or_ended_twice { SafeAfter (view self.old) (AttachCall attach.now pool.now) (view self.new) }
     {
-        self.on_incoming_attach(attach, pool)
-    }
-
-    fn on_incoming_attach(
-        &mut self,
-        attach: &Attach<'_>,
-        pool: &[u8],
-    ) -> Result<SenderAttachExchange, SenderAttachError>
-        ensures answer { result ≡ attach_answer (view self.old) attach.now pool.now }
-        ensures link { view self.new ≡ step (view self.old) (AttachCall attach.now pool.now) }
-    {
         self.local_state = self.may_attach(attach, pool)?;
         self.input_handle = Some(attach.handle);
         self.negotiate(attach)?;

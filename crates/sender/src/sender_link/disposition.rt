@@ -73,18 +73,6 @@ impl<'a> SenderLink<'a> {
         ensures link { view self.new ≡ step (view self.old) (Disposition tag.now settled state) }
         ensures no_delivery_lost_or_ended_twice { SafeAfter (view self.old) (Disposition tag.now settled state) (view self.new) }
     {
-        self.on_incoming_disposition(tag, settled, state)
-    }
-
-    fn on_incoming_disposition(
-        &mut self,
-        tag: &DeliveryTag,
-        settled: bool,
-        state: Option<DeliveryState>,
-    ) -> bool
-        ensures answer { result ≡ settle_back (view self.old) settled state }
-        ensures link { view self.new ≡ step (view self.old) (Disposition tag.now settled state) }
-    {
         let waits = !settled && is_terminal(state) && is_second(self.settings.rcv_settle_mode);
         self.settle(tag, settled, state);
         waits

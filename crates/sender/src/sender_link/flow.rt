@@ -15,13 +15,6 @@ impl<'a> SenderLink<'a> {
         ensures link { view self.new ≡ step (view self.old) (Flow flow.now) }
         ensures no_delivery_lost_or_ended_twice { SafeAfter (view self.old) (Flow flow.now) (view self.new) }
     {
-        self.on_incoming_flow(flow)
-    }
-
-    fn on_incoming_flow(&mut self, flow: &LinkFlow) -> Option<LinkFlow>
-        ensures answer { result ≡ flow_answer flow.now (view self.old).output (flowed flow.now (view self.old).flow) }
-        ensures link { view self.new ≡ step (view self.old) (Flow flow.now) }
-    {
         let handle = self.output_handle;
         self.flow_state.on_incoming_flow(flow, handle)
     }

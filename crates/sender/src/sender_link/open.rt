@@ -20,24 +20,11 @@ impl<'a> SenderLink<'a> {
         ensures link { view self.new ≡ step (view self.old) (Open handle incomplete_unsettled) }
         ensures no_delivery_lost_or_ended_twice { SafeAfter (view self.old) (Open handle incomplete_unsettled) (view self.new) }
     {
-        self.send_attach(handle, incomplete_unsettled)
-    }
-
-    fn send_attach(
-        &mut self,
-        handle: u32,
-        incomplete_unsettled: bool,
-    ) -> Result<LinkState, LinkStateError>
-        ensures answer { result ≡ open_answer (view self.old) incomplete_unsettled }
-        ensures link { view self.new ≡ step (view self.old) (Open handle incomplete_unsettled) }
-    {
-        match self.local_state.on_open(incomplete_unsettled) {
-            Some(state) => {
-                self.local_state = state;
-                self.output_handle = Some(handle);
-                Ok(state)
-            }
-            None => Err(LinkStateError::IllegalState),
-        }
+        let Some(state) = self.local_state.on_open(incomplete_unsettled) else {
+            return Err(LinkStateError::IllegalState);
+        };
+        self.local_state = state;
+        self.output_handle = Some(handle);
+        Ok(state)
     }
 }

@@ -187,19 +187,6 @@ impl<'a> SenderLink<'a> {
         ensures uncollected { IfOk result Uncollected }
         ensures no_delivery_lost_or_ended_twice { SafeAfter (view self.old) (Send (carrier (E.bytes encoder.now) pool.now (S.model sink.old)) message.now) (view self.new) }
     {
-        self.send_payload(sink, encoder, pool, message)
-    }
-
-    fn send_payload<S: Sink, E: Encoder>(
-        &mut self,
-        sink: &mut S,
-        encoder: &E,
-        pool: &[u8],
-        message: &Sendable,
-    ) -> Result<Settlement, SendError>
-        ensures sends { Sends (view self.old) (carrier (E.bytes encoder.now) pool.now (S.model sink.old)) message.now result (view self.new) (S.model sink.new) }
-        ensures uncollected { IfOk result Uncollected }
-    {
         let plan = self.may_send(encoder, pool, message)?;
         self.do_send(sink, pool, message, &plan)
     }

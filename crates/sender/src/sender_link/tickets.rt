@@ -34,13 +34,6 @@ impl<'a> SenderLink<'a> {
         ensures link { view self.new ≡ step (view self.old) (Collect ticket.number) }
         ensures no_delivery_lost_or_ended_twice { SafeAfter (view self.old) (Collect ticket.number) (view self.new) }
     {
-        self.redeem(ticket)
-    }
-
-    fn redeem(&mut self, ticket: Ticket) -> Result<Progress, TicketError>
-        ensures answer { result ≡ looked (view self.old) ticket.number }
-        ensures link { view self.new ≡ step (view self.old) (Collect ticket.number) }
-    {
         answer(self.seats.vacate(ticket.spend()))
     }
 }
