@@ -4,7 +4,6 @@ use Rattle.link.specs.Sending.{carrier, own_rows, transfer_of, send_refusal}
 use Rattle.link.proofs.Rows.{err_by, gated_err, gated_ok, accepted}
 use Rattle.link.specs.Calls.{Send}
 use Rattle.runs.proofs.Runs.{safe_after}
-use Rattle.sender.specs.Views.{view}
 use Rattle.sender.specs.Sends.{answered, plan_of}
 use Rattle.link.proofs.Sending.{clear, carries}
 use Rattle.sender.proofs.Sending.{refused_answer, refused_link, refused_sink, refused_carries, whole_answer, whole_link, whole_sink}
@@ -12,7 +11,7 @@ use Rattle.sender.proofs.sender_link.SenderLink.send.Goals as goal
 
 pub returns-in_err-plan : goal.returns-in_err-plan
 returns-in_err-plan g c =
-    let v = view c.args.self.now in
+    let v = c.args.self.now in
     let k = carrier (g.E.Encoder.bytes c.args.encoder.now) c.args.pool.now (g.S.Sink.model c.args.sink.now) in
     let m = c.args.message.now in
     let e = gated_err (first (own_rows v k m)) (plan_of v k m) _ (sym c.in_err-plan.was ∙ c.may_send.ensures) in
@@ -32,7 +31,7 @@ returns-in_err-plan g c =
 
 pub do_send-requires : goal.do_send-requires
 do_send-requires g c =
-    let v = view c.args.self.now in
+    let v = c.args.self.now in
     let k = carrier (g.E.Encoder.bytes c.args.encoder.now) c.args.pool.now (g.S.Sink.model c.args.sink.now) in
     let m = c.args.message.now in
     let e = gated_ok (first (own_rows v k m)) (plan_of v k m) c.in_ok-plan.plan (sym c.in_ok-plan.was ∙ c.may_send.ensures) in
@@ -42,7 +41,7 @@ do_send-requires g c =
 
 pub returns : goal.returns
 returns g c =
-    let v = view c.args.self.now in
+    let v = c.args.self.now in
     let k = carrier (g.E.Encoder.bytes c.args.encoder.now) c.args.pool.now (g.S.Sink.model c.args.sink.now) in
     let m = c.args.message.now in
     let e = gated_ok (first (own_rows v k m)) (plan_of v k m) c.in_ok-plan.plan (sym c.in_ok-plan.was ∙ c.may_send.ensures) in
