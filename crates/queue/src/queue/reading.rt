@@ -4,7 +4,6 @@ ghost use Rattle.queue.specs.Queues.{model_of};
 ghost use Rattle.queue.specs.Reading.{taken, left, read_into};
 
 use super::Queue;
-use super::ring::slot_at;
 use amqp::error::MemoryError;
 use amqp::header::{FrameKind, Header};
 
@@ -35,7 +34,7 @@ impl Queue {
         }
         let at = self.head * self.widest;
         out[..len].copy_from_slice(&self.bytes[at..at + len]);
-        self.head = slot_at(self.places.len(), self.head, 1);
+        self.head = self.slot_at(1);
         self.used -= 1;
         Ok(Some(Taken {
             kind: place.kind,
