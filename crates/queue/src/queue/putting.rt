@@ -42,6 +42,7 @@ impl Sink for Queue {
     ghost model = { model_of };
 
     fn put(&mut self, frame: Frame<'_>) -> Result<(), SinkError> {
+        // `ask_room` asks the same, but a call of it here did not prove, since it leads back to this impl.
         if let Some(reason) = self.stop {
             return Err(SinkError::SessionStopped(reason));
         }
