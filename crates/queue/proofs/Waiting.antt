@@ -119,8 +119,5 @@ short m f behind out e h =
     record { answer = rw (e, t); after = rw (e, t); read = rw (e, t) }
 
 -- where the oldest frame was taken, the place that comes back makes it again of what the reader's memory holds
-pub frame_back : (f : Frame) (fs : List Frame) (out : List ℕ) → length f.payload ≤ length out → frame_of (place_of f) (read_into (f ∷ fs) out) ≡ f
-frame_back f fs out h =
-    let t = le-ltb (length out) (length f.payload) h in
-    let p = take_at f.payload (drop (length f.payload) out) (length f.payload) refl in
-    rw (t, p)
+pub frame_back : (f : Frame) (behind : List ℕ) → frame_of (place_of f) (f.payload ++ behind) ≡ f
+frame_back f behind = let p = take_at f.payload behind (length f.payload) refl in rw p
