@@ -1,5 +1,5 @@
 // A place of a queue.
-ghost use Rattle.std.specs.Prelude.{◌≡◌, ◌≤◌, length};
+ghost use Rattle.std.specs.Prelude.{◌≡◌};
 ghost use Rattle.sink.specs.Frames.{waiting_of};
 ghost use Rattle.queue.specs.Rings.{blank, frame_of};
 
@@ -35,16 +35,15 @@ impl Place {
         }
     }
 
-    // The frame, with the payload at the front of `memory`.
+    // The frame, with the payload at the front of `memory`, as far as that reaches.
     pub fn frame<'m>(&self, memory: &'m [u8]) -> Frame<'m>
-        requires { self.now.size ≤ length memory.now }
         ensures { waiting_of result ≡ frame_of self.now memory.now }
     {
         Frame {
             kind: self.kind,
             handle: self.handle,
             header: self.header,
-            payload: &memory[..self.size],
+            payload: &memory[..self.size.min(memory.len())],
         }
     }
 }

@@ -4,7 +4,7 @@ use amqp::header::{FrameKind, Header};
 #[derive(Clone, Copy)]
 pub struct Frame<'a> {
     pub kind: FrameKind,
-    // The link's handle at this end.
+    // The handle that the peer gave the link, or 0 for a disposition.
     pub handle: u32,
     pub header: Header,
     pub payload: &'a [u8],
