@@ -1,5 +1,7 @@
 -- Pairs of digits and the bytes that they write.
-use Rattle.std.proofs.Common.{◌≡◌, ℕ, ◌+◌, ◌*◌, ◌/◌, ◌%◌, ◌<◌, List, [], ◌∷◌, ◌++◌, length, get_or, take, sym, refl, append_assoc, arith}
+use Rattle.std.proofs.Common.{◌≡◌, ℕ, ◌+◌, ◌-◌, ◌^◌, ◌*◌, ◌/◌, ◌%◌, ◌<◌, false, List, [], ◌∷◌, ◌++◌, length, get_or, take, sym, refl, append_assoc, arith, rules, Fits, w8}
+use Rattle.std.specs.Fmt.{padded_integral, format_spec, digits}
+use Rattle.std.proofs.lemmas.Fmt.{hex_byte}
 use Rattle.std.proofs.lemmas.List.{take_more, take_all, append-nil}
 use Rattle.headers_text.specs.Hex.{glyph, pairs, Pair, Added}
 
@@ -29,3 +31,11 @@ added_all text old new n a e =
     let whole = take_all (2 * n) text (omega arith) in
     let written = a.written in
     record { bytes = a.bytes; written = cc; after = a.after }
+
+-- one more byte, as `{:02x}` writes it
+pub pairs_more : (bs : List ℕ) (i : ℕ) → i < length bs → Fits w8 (get_or bs i 0) → pairs (take i bs) ++ padded_integral (format_spec 32 0 4 2 (2 ^ 64 - 1)) false [] (digits 16 false (get_or bs i 0)) ≡ pairs (take (i + 1) bs)
+pairs_more bs i lt small =
+    let more = take_more bs i 0 lt in
+    let push = pairs_push (take i bs) (get_or bs i 0) in
+    let two = hex_byte false (get_or bs i 0) (search rules) in
+    cc
