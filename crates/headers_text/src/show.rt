@@ -1,6 +1,6 @@
 // What is printed of a header.
 ghost use Rattle.std.specs.Prelude.{Some};
-ghost use Rattle.std.specs.Fmt.{DisplaysOnOk};
+ghost use Rattle.std.specs.Fmt.{WritesOnOk};
 ghost use Rattle.headers_text.specs.Shows.{tag_text, header_text, transfer_text, delivery_text, flags_text, disposition_text};
 
 use amqp::header::{Disposition, Header, Transfer};
@@ -32,7 +32,7 @@ impl fmt::Display for Digits {
 pub struct Shown(pub Header);
 
 impl fmt::Display for Shown {
-    ghost output = { λ h. header_text h.0 };
+    ghost output = { λ h. Some (header_text h.0) };
 
     fn fmt<W: fmt::Write>(&self, f: &mut fmt::Formatter<W>) -> fmt::Result {
         match &self.0 {
@@ -43,7 +43,7 @@ impl fmt::Display for Shown {
 }
 
 fn transfer<W: fmt::Write>(h: &Transfer, f: &mut fmt::Formatter<W>) -> fmt::Result
-    ensures { DisplaysOnOk W.write_str_gives f.old result (transfer_text h.now) f.new }
+    ensures { WritesOnOk W.write_str_gives f.old result (transfer_text h.now) f.new }
 {
     delivery(h, f)?;
     flags(h, f)
@@ -51,7 +51,7 @@ fn transfer<W: fmt::Write>(h: &Transfer, f: &mut fmt::Formatter<W>) -> fmt::Resu
 
 // What says which delivery it is of.
 fn delivery<W: fmt::Write>(h: &Transfer, f: &mut fmt::Formatter<W>) -> fmt::Result
-    ensures { DisplaysOnOk W.write_str_gives f.old result (delivery_text h.now) f.new }
+    ensures { WritesOnOk W.write_str_gives f.old result (delivery_text h.now) f.new }
 {
     let handle = h.handle;
     let id = Or(h.delivery_id, "none");
@@ -65,7 +65,7 @@ fn delivery<W: fmt::Write>(h: &Transfer, f: &mut fmt::Formatter<W>) -> fmt::Resu
 }
 
 fn flags<W: fmt::Write>(h: &Transfer, f: &mut fmt::Formatter<W>) -> fmt::Result
-    ensures { DisplaysOnOk W.write_str_gives f.old result (flags_text h.now) f.new }
+    ensures { WritesOnOk W.write_str_gives f.old result (flags_text h.now) f.new }
 {
     let more = YesNo(h.more);
     let state = Or(h.state, "none");
@@ -79,7 +79,7 @@ fn flags<W: fmt::Write>(h: &Transfer, f: &mut fmt::Formatter<W>) -> fmt::Result
 }
 
 fn disposition<W: fmt::Write>(h: &Disposition, f: &mut fmt::Formatter<W>) -> fmt::Result
-    ensures { DisplaysOnOk W.write_str_gives f.old result (disposition_text h.now) f.new }
+    ensures { WritesOnOk W.write_str_gives f.old result (disposition_text h.now) f.new }
 {
     let first = h.first;
     let settled = YesNo(h.settled);
