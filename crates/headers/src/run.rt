@@ -1,5 +1,6 @@
 // The lines of a run: `compact HEX` or `wide HEX`.
 use amqp::header::Header;
+use anyhow::{Result, bail, ensure};
 use codec_forms::compact::Compact;
 use codec_forms::encoder::Encoder;
 use codec_forms::error::ReadError;
@@ -9,36 +10,6 @@ use headers_text::show::Shown;
 use reader::reader::Reader;
 use std::io::{BufRead, BufWriter, Write};
 use std::{fmt, io};
-
-// Why a run ends early; a line goes by its number, from 1.
-#[derive(Drop)]
-pub enum Stop {
-    // A line that is neither form.
-    Neither(u64),
-    Digits(u64),
-    // A header that was read, but is not written as its bytes.
-    Differs(u64),
-    Memory,
-    Io(io::Error),
-}
-
-impl From<io::Error> for Stop {
-    fn from(e: io::Error) -> Stop {
-        Stop::Io(e)
-    }
-}
-
-impl fmt::Display for Stop {
-    fn fmt<W: fmt::Write>(&self, f: &mut fmt::Formatter<W>) -> fmt::Result {
-        match self {
-            Stop::Neither(n) => write!(f, "line {n}: neither `compact HEX` nor `wide HEX`"),
-            Stop::Digits(n) => write!(f, "line {n}: not pairs of digits from 0 to 9 and a to f"),
-            Stop::Differs(n) => write!(f, "line {n}: the header is written as other bytes"),
-            Stop::Memory => f.write_str("out of memory"),
-            Stop::Io(e) => write!(f, "{e}"),
-        }
-    }
-}
 
 // How many headers were read, and how many refused.
 #[derive(Clone, Copy, Default)]
@@ -63,7 +34,7 @@ impl fmt::Display for Tally {
     }
 }
 
-pub fn run<R: BufRead + Drop>(rt: &HostRuntime, input: R) -> Result<(), Stop> {
+pub fn run<R: BufRead + Drop>(rt: &HostRuntime, input: R) -> Result<()> {
     let mut out = BufWriter::new(rt.alloc(), rt.stdout())?;
     let mut bytes = Vec::new(rt.alloc());
     let mut tally = Tally::default();
@@ -83,13 +54,13 @@ pub fn run<R: BufRead + Drop>(rt: &HostRuntime, input: R) -> Result<(), Stop> {
 }
 
 // What the line `n` holds: the header of its bytes, or why they are none's.
-fn judged(text: &[u8], bytes: &mut Vec<u8>, n: u64) -> Result<Result<Header, ReadError>, Stop> {
+fn judged(text: &[u8], bytes: &mut Vec<u8>, n: u64) -> Result<Result<Header, ReadError>> {
     if let Some(hex) = digits_after(text, b"compact") {
         checked(&Compact, hex, bytes, n)
     } else if let Some(hex) = digits_after(text, b"wide") {
         checked(&Wide, hex, bytes, n)
     } else {
-        Err(Stop::Neither(n))
+        bail!("line {n}: neither `compact HEX` nor `wide HEX`")
     }
 }
 
@@ -106,17 +77,19 @@ fn checked<E: Reader>(
     hex: &[u8],
     bytes: &mut Vec<u8>,
     n: u64,
-) -> Result<Result<Header, ReadError>, Stop> {
+) -> Result<Result<Header, ReadError>> {
     bytes.clear();
-    decode(hex, bytes).map_err(|fault| match fault {
-        HexFault::Memory => Stop::Memory,
-        HexFault::Odd | HexFault::NoDigit => Stop::Digits(n),
-    })?;
-    let outcome = encoder.read(bytes);
-    match &outcome {
-        Ok(header) if !writes_as(encoder, header, bytes) => Err(Stop::Differs(n)),
-        _ => Ok(outcome),
+    match decode(hex, bytes) {
+        Ok(()) => {}
+        Err(HexFault::Memory) => bail!("out of memory"),
+        Err(_) => bail!("line {n}: not pairs of digits from 0 to 9 and a to f"),
     }
+    let outcome = encoder.read(bytes);
+    if let Ok(header) = &outcome {
+        let same = writes_as(encoder, header, bytes);
+        ensure!(same, "line {n}: the header is written as other bytes");
+    }
+    Ok(outcome)
 }
 
 // The encoder writes the header as these bytes.
