@@ -1,7 +1,7 @@
 -- A list's fields as they are met one by one.
-use Rattle.std.specs.Prelude.{◌≡◌, ℕ, ◌+◌, ◌<◌, ◌≤◌, cond, List, [], ◌∷◌, ◌++◌, length, take, replicate, ◌==◌}
+use Rattle.std.specs.Prelude.{◌≡◌, ℕ, ◌+◌, ◌<◌, ◌≤◌, cond, List, [], ◌∷◌, ◌++◌, length, take, replicate}
 use Rattle.codec.specs.Amqp.{Val, Vals, nil, cons}
-use Rattle.codec.specs.Compact.{compact, absent}
+use Rattle.codec.specs.Form.{Form, encoded, absent}
 use Rattle.codec.specs.Meaning.{Ranged}
 use Rattle.codec.specs.declared.scratch.Scratch.{Scratch}
 use Rattle.codec.specs.declared.body.Body.{Body}
@@ -9,6 +9,11 @@ use Rattle.codec.specs.declared.body.Body.{Body}
 -- what a scratch buffer holds
 abbrev pub held : Scratch → List ℕ
 held s = take s.len s.bytes
+
+-- from s to t these bytes, at most n, came to the end
+pub record Appended (n : ℕ) (b : List ℕ) (s t : Scratch) : Type 0 where
+  pub made : held t ≡ held s ++ b
+  pub len : t.len ≤ s.len + n
 
 -- the bytes and the number of the fields up to the last that is present, and how many absent ones follow
 pub record Met : Type 0 where
@@ -25,20 +30,30 @@ none_met = record { bytes = []; count = 0; gap = 0 }
 abbrev pub skipped : Met → Met
 skipped s = record { bytes = s.bytes; count = s.count; gap = s.gap + 1 }
 
--- one more field that is present: those absent before it are written as nulls
+-- the absent fields that waited are nulls, and the bytes of one more field follow
+abbrev pub begun : Met → Met
+begun s = record { bytes = s.bytes ++ replicate s.gap 0x40; count = s.count + s.gap + 1; gap = 0 }
+
 abbrev pub added : Met → List ℕ → Met
-added s b = record { bytes = s.bytes ++ (replicate s.gap 0x40 ++ b); count = s.count + s.gap + 1; gap = 0 }
+added s b = record { bytes = (begun s).bytes ++ b; count = (begun s).count; gap = 0 }
 
-unfoldable pub step : Met → Val → Met
-step s v = cond (absent v) (skipped s) (added s (compact v))
+unfoldable pub step : Form → Met → Val → Met
+step F s v = cond (absent v) (skipped s) (added s (encoded F v))
 
-abbrev pub steps : Met → Vals → Met
-steps s nil = s
-steps s (cons v vs) = steps (step s v) vs
+abbrev pub steps : Form → Met → Vals → Met
+steps F s nil = s
+steps F s (cons v vs) = steps F (step F s v) vs
 
--- the list of these fields
-unfoldable pub closed : Met → List ℕ
-closed s = cond (s.count == 0) (0x45 ∷ []) (0xc0 ∷ (length s.bytes + 1) ∷ s.count ∷ s.bytes)
+-- how many absent fields at the end are written
+abbrev pub written_gap : Form → Met → ℕ
+written_gap F s = cond F.terse 0 s.gap
+
+abbrev pub whole : Form → Met → List ℕ
+whole F s = s.bytes ++ replicate (written_gap F s) 0x40
+
+-- the described list of these fields
+abbrev pub closed : Form → ℕ → Met → List ℕ
+closed F code s = 0x00 ∷ F.ulongs code ++ (F.lists (s.count + written_gap F s) (length (whole F s)) ++ whole F s)
 
 pub record Empty (b : Body) : Type 0 where
   pub none : b.count + b.gap ≡ 0
@@ -55,13 +70,13 @@ pub record Grew (n : ℕ) (s t : Body) : Type 0 where
   pub len : t.bytes.len + t.gap ≤ s.bytes.len + s.gap + n
 
 -- from s to t this field, of at most n bytes, was met
-pub record Took (n : ℕ) (v : Val) (s t : Body) : Type 0 where
-  pub made : met t ≡ step (met s) v
+pub record Took (F : Form) (n : ℕ) (v : Val) (s t : Body) : Type 0 where
+  pub made : met t ≡ step F (met s) v
   pub grew : Grew n s t
   pub ranged : Ranged v
 
 -- these are the bytes of this value, at most n
-pub record Encodes (n : ℕ) (v : Val) (s : Scratch) : Type 0 where
-  pub made : held s ≡ compact v
+pub record Encodes (F : Form) (n : ℕ) (v : Val) (s : Scratch) : Type 0 where
+  pub made : held s ≡ encoded F v
   pub len : s.len ≤ n
   pub ranged : Ranged v

@@ -1,24 +1,81 @@
-// The compact encoder: the shortest codes, and no nulls at the end of a list.
+// The compact encoder: the shortest codes, and nothing that can be left out.
 ghost use Rattle.std.specs.Prelude.{◌≡◌};
-ghost use Rattle.codec.specs.Headers.{compact_bytes, MeansHeader, PlainMeasures21};
+ghost use Rattle.codec.specs.Compact.{compact_form};
+ghost use Rattle.codec.specs.Headers.{compact_bytes, MeansHeader, AtMost255, PlainMeasures21};
 ghost use Rattle.codec.specs.Written.{written, after_write};
+ghost use Rattle.codec.specs.Forms.{compact_lawful};
 ghost use Rattle.codec.specs.Longer;
 
 use crate::encoder::Encoder;
+use crate::form::Form;
 use crate::header::encoded;
+use crate::scratch::Scratch;
 use amqp::error::MemoryError;
 use amqp::header::Header;
 
 #[derive(Clone, Copy)]
 pub struct Compact;
 
+impl Form for Compact {
+    ghost form = { compact_form };
+
+    ghost lawful = { compact_lawful };
+
+    fn terse() -> bool {
+        true
+    }
+
+    fn boolean(out: &mut Scratch, x: bool) {
+        out.append(&[if x { 0x41 } else { 0x42 }]);
+    }
+
+    fn uint(out: &mut Scratch, x: u32) {
+        if x == 0 {
+            out.append(&[0x43]);
+        } else if x < 256 {
+            out.append(&[0x52, x as u8]);
+        } else {
+            let [a, b, c, d] = x.to_be_bytes();
+            out.append(&[0x70, a, b, c, d]);
+        }
+    }
+
+    fn ulong(out: &mut Scratch, x: u64) {
+        if x == 0 {
+            out.append(&[0x44]);
+        } else if x < 256 {
+            out.append(&[0x53, x as u8]);
+        } else {
+            let [a, b, c, d, e, f, g, h] = x.to_be_bytes();
+            out.append(&[0x80, a, b, c, d, e, f, g, h]);
+        }
+    }
+
+    fn binary(out: &mut Scratch, len: u8) {
+        out.append(&[0xa0, len]);
+    }
+
+    fn symbol(out: &mut Scratch, len: u8) {
+        out.append(&[0xa3, len]);
+    }
+
+    // The size counts the byte of the count.
+    fn list(out: &mut Scratch, count: u8, len: u8) {
+        if count == 0 {
+            out.append(&[0x45]);
+        } else {
+            out.append(&[0xc0, len + 1, count]);
+        }
+    }
+}
+
 impl Encoder for Compact {
     ghost bytes = { λ _ h. compact_bytes h };
 
-    ghost widest = { λ e h. Longer.widest h };
+    ghost widest = { λ e h. Longer.widest compact_form compact_lawful.sizes h };
 
     fn size(&self, header: &Header) -> usize {
-        encoded(header).as_slice().len()
+        encoded::<Compact>(header).as_slice().len()
     }
 
     fn write(&self, header: &Header, out: &mut [u8]) -> Result<usize, MemoryError>
@@ -26,8 +83,16 @@ impl Encoder for Compact {
         ensures after { out.new ≡ after_write (compact_bytes header.now) out.old }
         ensures meaning { MeansHeader (compact_bytes header.now) header.now }
     {
-        encoded(header).copy_to(out)
+        encoded::<Compact>(header).copy_to(out)
     }
+}
+
+// A compact header is at most 255 bytes long.
+pub fn compact_is_at_most_255() -> u8
+    ensures answer { result ≡ 0 }
+    ensures holds { AtMost255 compact_bytes }
+{
+    0
 }
 
 // A new delivery's transfer with handle 0, a tag of 4 bytes and format 0, unsettled, measures 21 bytes.

@@ -5,48 +5,49 @@ ghost use Rattle.codec.specs.Bodies.{Encodes};
 
 use crate::body::Body;
 use crate::field::{Absent, Field, Flag};
+use crate::form::Form;
 use crate::scratch::Scratch;
 use amqp::header::{Disposition, Header, Transfer};
 
-fn transfer(h: &Transfer) -> Scratch
-    ensures { Encodes 255 (header_value (header.Transfer h.now)) result }
+fn transfer<F: Form>(h: &Transfer) -> Scratch
+    ensures { Encodes F.Form.form 155 (header_value F.Form.form.terse (header.Transfer h.now)) result }
 {
     let mut body = Body::new();
-    h.handle.append_to(&mut body);
-    h.delivery_id.append_to(&mut body);
-    h.delivery_tag.append_to(&mut body);
-    h.message_format.append_to(&mut body);
-    h.settled.append_to(&mut body);
-    Flag(h.more).append_to(&mut body);
+    h.handle.append_to::<F>(&mut body);
+    h.delivery_id.append_to::<F>(&mut body);
+    h.delivery_tag.append_to::<F>(&mut body);
+    h.message_format.append_to::<F>(&mut body);
+    h.settled.append_to::<F>(&mut body);
+    Flag(h.more).append_to::<F>(&mut body);
     // The receiver's settle mode.
-    Absent.append_to(&mut body);
-    h.state.append_to(&mut body);
-    Flag(h.resume).append_to(&mut body);
-    Flag(h.aborted).append_to(&mut body);
-    Flag(h.batchable).append_to(&mut body);
-    body.close(0x14)
+    Absent.append_to::<F>(&mut body);
+    h.state.append_to::<F>(&mut body);
+    Flag(h.resume).append_to::<F>(&mut body);
+    Flag(h.aborted).append_to::<F>(&mut body);
+    Flag(h.batchable).append_to::<F>(&mut body);
+    body.close::<F>(0x14)
 }
 
-fn disposition(h: &Disposition) -> Scratch
-    ensures { Encodes 255 (header_value (header.Disposition h.now)) result }
+fn disposition<F: Form>(h: &Disposition) -> Scratch
+    ensures { Encodes F.Form.form 155 (header_value F.Form.form.terse (header.Disposition h.now)) result }
 {
     let mut body = Body::new();
     // The role: a sender's is false.
-    false.append_to(&mut body);
-    h.first.append_to(&mut body);
+    false.append_to::<F>(&mut body);
+    h.first.append_to::<F>(&mut body);
     // The last id.
-    Absent.append_to(&mut body);
-    Flag(h.settled).append_to(&mut body);
-    h.state.append_to(&mut body);
-    Flag(h.batchable).append_to(&mut body);
-    body.close(0x15)
+    Absent.append_to::<F>(&mut body);
+    Flag(h.settled).append_to::<F>(&mut body);
+    h.state.append_to::<F>(&mut body);
+    Flag(h.batchable).append_to::<F>(&mut body);
+    body.close::<F>(0x15)
 }
 
-pub(crate) fn encoded(header: &Header) -> Scratch
-    ensures { Encodes 255 (header_value header.now) result }
+pub(crate) fn encoded<F: Form>(header: &Header) -> Scratch
+    ensures { Encodes F.Form.form 155 (header_value F.Form.form.terse header.now) result }
 {
     match header {
-        Header::Transfer(h) => transfer(h),
-        Header::Disposition(h) => disposition(h),
+        Header::Transfer(h) => transfer::<F>(h),
+        Header::Disposition(h) => disposition::<F>(h),
     }
 }

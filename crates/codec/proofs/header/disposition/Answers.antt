@@ -4,9 +4,9 @@ use Rattle.codec.proofs.Closing.{closes}
 use Rattle.codec.proofs.header.disposition.Goals as goal
 
 pub returns : goal.returns
-returns c =
+returns g c =
     record {
-      made = closes 0x15 (disposition_fields c.args.h.now) _ _ c.close.ensures.made (cc);
+      made = closes g.F.Form.form 0x15 (disposition_fields g.F.Form.form.terse c.args.h.now) _ _ c.close.ensures.made (cc);
       len = omega arith;
       ranged = (lit< tt, search rules);
     }

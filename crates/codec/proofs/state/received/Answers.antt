@@ -4,9 +4,9 @@ use Rattle.codec.proofs.Closing.{closes}
 use Rattle.codec.proofs.state.received.Goals as goal
 
 pub returns : goal.returns
-returns c =
+returns g c =
     record {
-      made = closes 0x23 (received_fields c.args.at) _ _ c.close.ensures.made (cc);
+      made = closes g.F.Form.form 0x23 (received_fields c.args.at) _ _ c.close.ensures.made (cc);
       len = omega arith;
       ranged = (lit< tt, search rules);
     }

@@ -5,9 +5,9 @@ use Rattle.codec.proofs.Closing.{closes}
 use Rattle.codec.proofs.state.rejected.Goals as goal
 
 pub returns : goal.returns
-returns c =
+returns g c =
     record {
-      made = closes 0x25 (cons (optional error_value c.args.error) nil) _ _ c.close.ensures.made (cc);
+      made = closes g.F.Form.form 0x25 (cons (optional error_value c.args.error) nil) _ _ c.close.ensures.made (cc);
       len = omega arith;
       ranged = (lit< tt, search rules);
     }

@@ -1,5 +1,7 @@
-use Rattle.std.proofs.Common.{rules}
+use Rattle.std.proofs.Common.{true, rules}
+use Rattle.codec.specs.Compact.{compact_form}
 use Rattle.codec.specs.Values.{header_value}
+use Rattle.codec.specs.Forms.{compact_lawful}
 use Rattle.codec.proofs.Meanings.{encoded_means}
 use Rattle.codec.proofs.compact.CompactEncoder.write.Goals as goal
 
@@ -8,5 +10,5 @@ returns c =
     record {
       answer = search rules;
       after = search rules;
-      meaning = encoded_means (header_value c.args.header.now) c.encoded.result c.encoded.ensures;
+      meaning = encoded_means compact_form compact_lawful (header_value true c.args.header.now) c.encoded.result c.encoded.ensures;
     }

@@ -4,4 +4,4 @@ use Rattle.codec.proofs.field.AbsentField.append_to.Goals as goal
 
 pub returns : goal.returns
 unfolding step
-returns c = search rules
+returns g c = search rules
