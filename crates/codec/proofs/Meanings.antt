@@ -1,12 +1,12 @@
 -- The bytes of a value, at most 255, mean what the form keeps of it.
 use Rattle.std.proofs.Common.{◌≡◌, ℕ, suc, ◌≤◌, Bool, true, false, List, [], ◌∷◌, length, refl, ap, arith}
-use Rattle.std.proofs.lemmas.List.{length-append, length-take}
+use Rattle.std.proofs.lemmas.List.{length-append}
+use Rattle.arrayvec.specs.ArrayVec.{ArrayVec}
 use Rattle.codec.specs.Amqp.{Val, Vals, nil, cons, count, null, bool, uint, ulong, binary, symbol, list, described, Means, MeanAll, none, more, null_40, described_00}
 use Rattle.codec.specs.Form.{Form, encoded, kept, left_out, keep, concat, list_of}
 use Rattle.codec.specs.Laws.{Lawful}
 use Rattle.codec.specs.Meaning.{keep_value, kept_of, all_kept, Ranged, AllRanged}
 use Rattle.codec.specs.Bodies.{Encodes}
-use Rattle.codec.specs.declared.scratch.Scratch.{Scratch}
 use Rattle.codec.proofs.Closing.{absent_null}
 use Rattle.codec.specs.Longer.{filled, out_absent}
 
@@ -61,8 +61,8 @@ module _ (F : Form) (L : Lawful F) where
         let s = split (left_out F.terse v) (encoded F v) (kept F vs) 252 l (out_short v) in
         keeps (left_out F.terse v) (encoded F v) (kept_of F.terse v) (kept F vs) (all_kept F.terse vs) (filled F L.sizes v) (means v r.0 s.0) (all_mean vs r.1 s.1)
 
-  pub encoded_means : (v : Val) (s : Scratch) → Encodes F 155 v s → Means (encoded F v) (kept_of F.terse v)
-  encoded_means v s e = means v e.ranged (omega (arith, ap length e.made, length-take s.len s.bytes))
+  pub encoded_means : (v : Val) (s : ArrayVec ℕ) → Encodes F 155 v s → Means (encoded F v) (kept_of F.terse v)
+  encoded_means v s e = means v e.ranged (omega (arith, ap length e.made))
 
 mutual
   -- a form that is not terse keeps all

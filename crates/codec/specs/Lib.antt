@@ -8,6 +8,7 @@ pub mod Meaning
 pub mod Laws
 pub mod Headers
 pub mod Bodies
+pub mod Descriptors
 pub mod Refusals
 pub mod Forms
 pub mod Longer

@@ -1,9 +1,12 @@
 // The fields of a list, met one by one: absent ones wait, since a terse form leaves out those at the end.
-ghost use Rattle.std.specs.Prelude.{◌≡◌, ◌+◌, ◌≤◌};
-ghost use Rattle.codec.specs.Bodies.{held, met, none_met, skipped, begun, closed, written_gap, Empty, Room, Grew};
+ghost use Rattle.std.specs.Prelude.{◌≡◌, ◌+◌, ◌<◌, ◌≤◌};
+ghost use Rattle.arrayvec.specs.ArrayVec.{array_vec_len};
+ghost use Rattle.codec.specs.Bodies.{met, none_met, skipped, with_nulls, begun, ended, closed, Empty, Room, Grew};
+ghost use Rattle.codec.specs.Descriptors.{descriptor_code};
 
+use crate::descriptor::Descriptor;
 use crate::form::Form;
-use crate::scratch::Scratch;
+use crate::scratch::{Scratch, append};
 
 const NULLS: [u8; 16] = [0x40; 16];
 
@@ -36,39 +39,52 @@ impl Body {
         self.gap += 1;
     }
 
+    // Writes the absent fields that wait as nulls.
+    fn write_nulls(&mut self)
+        requires { Room 0 self.old }
+        ensures made { met self.new ≡ with_nulls (met self.old) }
+        ensures len { array_vec_len self.new.bytes ≡ array_vec_len self.old.bytes + self.old.gap }
+    {
+        let gap = usize::from(self.gap);
+        append(&mut self.bytes, &NULLS[..gap]);
+        self.count += self.gap;
+        self.gap = 0;
+    }
+
     // Counts one more field that is present: its bytes are to follow.
     pub(crate) fn begin(&mut self)
         requires { Room 0 self.old }
         ensures made { met self.new ≡ begun (met self.old) }
-        ensures len { self.new.bytes.len ≡ self.old.bytes.len + self.old.gap }
+        ensures len { array_vec_len self.new.bytes ≡ array_vec_len self.old.bytes + self.old.gap }
     {
-        let gap = usize::from(self.gap);
-        self.bytes.append(&NULLS[0..gap]);
-        self.count += self.gap + 1;
-        self.gap = 0;
+        self.write_nulls();
+        self.count += 1;
     }
 
-    // How many of the absent fields at the end are written.
-    fn written_gap<F: Form>(&self) -> u8
-        ensures { result ≡ written_gap F.Form.form (met self.now) }
+    // Leaves out the absent fields at the end, or writes them.
+    fn end<F: Form>(&mut self)
+        requires { Room 0 self.old }
+        ensures made { met self.new ≡ ended F.Form.form (met self.old) }
+        ensures len { array_vec_len self.new.bytes ≤ array_vec_len self.old.bytes + self.old.gap }
     {
-        if F::terse() { 0 } else { self.gap }
+        if !F::terse() {
+            self.write_nulls();
+        }
     }
 
     // The described list of these fields.
-    pub(crate) fn close<F: Form>(&self, code: u8) -> Scratch
-        requires { (self.now.bytes.len + self.now.gap ≤ 230) × (self.now.count + self.now.gap ≤ 16) }
-        ensures made { held result ≡ closed F.Form.form code (met self.now) }
-        ensures len { result.len ≤ self.now.bytes.len + self.now.gap + 19 }
+    pub(crate) fn close<F: Form>(mut self, descriptor: Descriptor) -> Scratch
+        requires { (array_vec_len self.bytes + self.gap ≤ 230) × (self.count + self.gap < 16) }
+        ensures made { result.items ≡ closed F.Form.form (descriptor_code descriptor) (met self) }
+        ensures len { array_vec_len result ≤ array_vec_len self.bytes + self.gap + 19 }
     {
-        let gap = self.written_gap::<F>();
+        self.end::<F>();
         let fields = self.bytes.as_slice();
         let mut list = Scratch::new();
-        list.append(&[0x00]);
-        F::ulong(&mut list, u64::from(code));
-        F::list(&mut list, self.count + gap, fields.len() as u8 + gap);
-        list.append(fields);
-        list.append(&NULLS[0..usize::from(gap)]);
+        list.push(0x00);
+        F::ulong(&mut list, descriptor.code());
+        F::list(&mut list, self.count, fields.len() as u8);
+        append(&mut list, fields);
         list
     }
 }

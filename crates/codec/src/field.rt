@@ -1,12 +1,14 @@
 // The fields of lists, in any form (Part 1, 1.6).
-ghost use Rattle.std.specs.Prelude.{◌≡◌, ℕ, ◌≤◌, Bool};
+#![tactic(auto, unfolding(crate::specs::Bodies::step))]
+
+ghost use Rattle.std.specs.Prelude.{ℕ, Bool, max};
 ghost use Rattle.codec.specs.Amqp.{Val, null, bool as boolean, uint, ulong};
 ghost use Rattle.codec.specs.Values.{optional, flag, tag_value};
 ghost use Rattle.codec.specs.Bodies.{Room, Took};
-ghost use Rattle.std.proofs.Common.{rules};
 
 use crate::body::Body;
 use crate::form::Form;
+use crate::scratch::append;
 use amqp::tag::DeliveryTag;
 
 pub(crate) trait Field {
@@ -19,8 +21,6 @@ pub(crate) trait Field {
     fn append_to<F: Form>(&self, body: &mut Body)
         requires { Room most body.old }
         ensures { Took F.Form.form most (value F.Form.form.terse self.now) body.old body.new };
-
-    ghost some: { 1 ≤ most };
 }
 
 #[derive(Drop)]
@@ -31,8 +31,6 @@ impl Field for Absent {
 
     ghost most = { 1 };
 
-    ghost some = { Prim.search rules };
-
     fn append_to<F: Form>(&self, body: &mut Body) {
         body.skip();
     }
@@ -41,9 +39,7 @@ impl Field for Absent {
 impl<T: Field> Field for Option<T> {
     ghost value = { λ terse x. optional (T.Field.value terse) x };
 
-    ghost most = { T.Field.most };
-
-    ghost some = { Prim.search rules };
+    ghost most = { max 1 T.Field.most };
 
     fn append_to<F: Form>(&self, body: &mut Body) {
         match self {
@@ -57,8 +53,6 @@ impl Field for bool {
     ghost value = { λ _ x. boolean x };
 
     ghost most = { 2 };
-
-    ghost some = { Prim.search rules };
 
     fn append_to<F: Form>(&self, body: &mut Body) {
         body.begin();
@@ -75,8 +69,6 @@ impl Field for Flag {
 
     ghost most = { 2 };
 
-    ghost some = { Prim.search rules };
-
     fn append_to<F: Form>(&self, body: &mut Body) {
         if F::terse() && !self.0 {
             Absent.append_to::<F>(body);
@@ -91,8 +83,6 @@ impl Field for u32 {
 
     ghost most = { 5 };
 
-    ghost some = { Prim.search rules };
-
     fn append_to<F: Form>(&self, body: &mut Body) {
         body.begin();
         F::uint(&mut body.bytes, *self);
@@ -103,8 +93,6 @@ impl Field for u64 {
     ghost value = { λ _ x. ulong x };
 
     ghost most = { 9 };
-
-    ghost some = { Prim.search rules };
 
     fn append_to<F: Form>(&self, body: &mut Body) {
         body.begin();
@@ -117,13 +105,11 @@ impl Field for DeliveryTag {
 
     ghost most = { 37 };
 
-    ghost some = { Prim.search rules };
-
     fn append_to<F: Form>(&self, body: &mut Body) {
         let all = self.bytes();
         let len = self.len();
         body.begin();
         F::binary(&mut body.bytes, len as u8);
-        body.bytes.append(&all[0..len]);
+        append(&mut body.bytes, &all[0..len]);
     }
 }

@@ -4,6 +4,7 @@ ghost use Rattle.codec.specs.Values.{header_value};
 ghost use Rattle.codec.specs.Bodies.{Encodes};
 
 use crate::body::Body;
+use crate::descriptor::Descriptor;
 use crate::field::{Absent, Field, Flag};
 use crate::form::Form;
 use crate::scratch::Scratch;
@@ -25,7 +26,7 @@ fn transfer<F: Form>(h: &Transfer) -> Scratch
     Flag(h.resume).append_to::<F>(&mut body);
     Flag(h.aborted).append_to::<F>(&mut body);
     Flag(h.batchable).append_to::<F>(&mut body);
-    body.close::<F>(0x14)
+    body.close::<F>(Descriptor::Transfer)
 }
 
 fn disposition<F: Form>(h: &Disposition) -> Scratch
@@ -40,7 +41,7 @@ fn disposition<F: Form>(h: &Disposition) -> Scratch
     Flag(h.settled).append_to::<F>(&mut body);
     h.state.append_to::<F>(&mut body);
     Flag(h.batchable).append_to::<F>(&mut body);
-    body.close::<F>(0x15)
+    body.close::<F>(Descriptor::Disposition)
 }
 
 pub(crate) fn encoded<F: Form>(header: &Header) -> Scratch

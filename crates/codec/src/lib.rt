@@ -3,6 +3,7 @@
 
 mod body;
 pub mod compact;
+mod descriptor;
 pub mod encoder;
 pub mod error;
 mod field;

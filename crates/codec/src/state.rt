@@ -1,15 +1,17 @@
 // Delivery states and errors as fields: described lists of their own (Part 3, 3.4; Part 2, 2.8.14).
+#![tactic(auto, unfolding(crate::specs::Bodies::step))]
+
 ghost use Rattle.amqp.specs.declared.state.DeliveryState.TheVariants as state;
 ghost use Rattle.codec.specs.Amqp.{symbol};
 ghost use Rattle.codec.specs.Values.{condition_name, error_value, state_value};
 ghost use Rattle.codec.specs.Bodies.{Encodes};
-ghost use Rattle.std.proofs.Common.{rules};
 
 use crate::body::Body;
+use crate::descriptor::Descriptor;
 use crate::field::{Absent, Field};
 use crate::form::Form;
 use crate::name::condition_name;
-use crate::scratch::Scratch;
+use crate::scratch::{Scratch, append};
 use amqp::condition::AmqpError;
 use amqp::state::{DeliveryState, Received};
 
@@ -22,13 +24,11 @@ impl Field for Condition {
 
     ghost most = { 33 };
 
-    ghost some = { Prim.search rules };
-
     fn append_to<F: Form>(&self, body: &mut Body) {
         let name = condition_name(self.0);
         body.begin();
         F::symbol(&mut body.bytes, name.len() as u8);
-        body.bytes.append(name);
+        append(&mut body.bytes, name);
     }
 }
 
@@ -39,7 +39,7 @@ fn described_error<F: Form>(condition: AmqpError) -> Scratch
     Condition(condition).append_to::<F>(&mut body);
     Absent.append_to::<F>(&mut body);
     Absent.append_to::<F>(&mut body);
-    body.close::<F>(0x1d)
+    body.close::<F>(Descriptor::Error)
 }
 
 impl Field for AmqpError {
@@ -47,11 +47,9 @@ impl Field for AmqpError {
 
     ghost most = { 54 };
 
-    ghost some = { Prim.search rules };
-
     fn append_to<F: Form>(&self, body: &mut Body) {
         body.begin();
-        body.bytes.append(described_error::<F>(*self).as_slice());
+        append(&mut body.bytes, described_error::<F>(*self).as_slice());
     }
 }
 
@@ -61,7 +59,7 @@ fn received<F: Form>(at: Received) -> Scratch
     let mut body = Body::new();
     at.section_number.append_to::<F>(&mut body);
     at.section_offset.append_to::<F>(&mut body);
-    body.close::<F>(0x23)
+    body.close::<F>(Descriptor::Received)
 }
 
 fn rejected<F: Form>(error: Option<AmqpError>) -> Scratch
@@ -69,7 +67,7 @@ fn rejected<F: Form>(error: Option<AmqpError>) -> Scratch
 {
     let mut body = Body::new();
     error.append_to::<F>(&mut body);
-    body.close::<F>(0x25)
+    body.close::<F>(Descriptor::Rejected)
 }
 
 fn modified<F: Form>(failed: Option<bool>, undeliverable: Option<bool>) -> Scratch
@@ -79,7 +77,7 @@ fn modified<F: Form>(failed: Option<bool>, undeliverable: Option<bool>) -> Scrat
     failed.append_to::<F>(&mut body);
     undeliverable.append_to::<F>(&mut body);
     Absent.append_to::<F>(&mut body);
-    body.close::<F>(0x27)
+    body.close::<F>(Descriptor::Modified)
 }
 
 fn described_state<F: Form>(state: DeliveryState) -> Scratch
@@ -87,9 +85,9 @@ fn described_state<F: Form>(state: DeliveryState) -> Scratch
 {
     match state {
         DeliveryState::Received(at) => received::<F>(at),
-        DeliveryState::Accepted => Body::new().close::<F>(0x24),
+        DeliveryState::Accepted => Body::new().close::<F>(Descriptor::Accepted),
         DeliveryState::Rejected(error) => rejected::<F>(error),
-        DeliveryState::Released => Body::new().close::<F>(0x26),
+        DeliveryState::Released => Body::new().close::<F>(Descriptor::Released),
         DeliveryState::Modified {
             delivery_failed,
             undeliverable_here,
@@ -102,10 +100,8 @@ impl Field for DeliveryState {
 
     ghost most = { 73 };
 
-    ghost some = { Prim.search rules };
-
     fn append_to<F: Form>(&self, body: &mut Body) {
         body.begin();
-        body.bytes.append(described_state::<F>(*self).as_slice());
+        append(&mut body.bytes, described_state::<F>(*self).as_slice());
     }
 }

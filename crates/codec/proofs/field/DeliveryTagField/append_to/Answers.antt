@@ -2,7 +2,7 @@ use Rattle.std.proofs.Common.{◌≡◌, ℕ, ◌-◌, ◌≤◌, List, length, 
 use Rattle.std.proofs.lemmas.List.{length-take}
 use Rattle.amqp.specs.Tags.{all_bytes, tag_bytes}
 use Rattle.amqp.specs.declared.tag.DeliveryTag.{DeliveryTag}
-use Rattle.codec.specs.Bodies.{held, step}
+use Rattle.codec.specs.Bodies.{step}
 use Rattle.codec.proofs.field.DeliveryTagField.append_to.Goals as goal
 
 short : (t : DeliveryTag) → length (tag_bytes t) ≤ 32
@@ -29,5 +29,5 @@ unfolding step
 returns g c =
     let s = short c.args.self.now in
     let p = part _ _ c.args.self.now c.len-len.ensures c.bytes-all.ensures.own in
-    let a = append_assoc (held c.begin.new.self.bytes) (g.F.Form.form.binaries (length (tag_bytes c.args.self.now))) (tag_bytes c.args.self.now) in
+    let a = append_assoc c.begin.new.self.bytes.items (g.F.Form.form.binaries (length (tag_bytes c.args.self.now))) (tag_bytes c.args.self.now) in
     search rules
