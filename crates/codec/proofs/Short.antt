@@ -1,7 +1,7 @@
 -- No header is longer than 255 bytes.
-use Rattle.std.proofs.Common.{ℕ, ◌+◌, ◌≤◌, Bool, true, false, List, [], ◌∷◌, length, Some, None, Option, arith, lit≤}
+use Rattle.std.proofs.Common.{ℕ, ◌+◌, ◌≤◌, Bool, true, false, List, [], ◌∷◌, length, min, Some, None, Option, arith, lit≤}
 use Rattle.std.proofs.lemmas.List.{length-append, length-take}
-use Rattle.amqp.specs.Tags.{all_bytes, tag_bytes}
+use Rattle.amqp.specs.Tags.{tag_bytes}
 use Rattle.amqp.specs.declared.condition.AmqpError.{AmqpError}
 use Rattle.amqp.specs.declared.condition.AmqpError.TheVariants.{InternalError, NotFound, UnauthorizedAccess, DecodeError, ResourceLimitExceeded, NotAllowed, InvalidField, NotImplemented, ResourceLocked, PreconditionFailed, ResourceDeleted, IllegalState, FrameSizeTooSmall}
 use Rattle.amqp.specs.declared.state.DeliveryState.{DeliveryState}
@@ -20,7 +20,7 @@ keep_within true b (t ∷ ts) m n l k = omega (arith, length-append b (concat (t
 keep_within false b ts m n l k = omega (arith, length-append b (concat ts))
 
 tag_short : (t : DeliveryTag) → length (tag_bytes t) ≤ 32
-tag_short t = omega (arith, length-take t.len (all_bytes t))
+tag_short t = omega (arith, length-take (min t.len 32) t.bytes)
 
 name_short : (k : AmqpError) → length (condition_name k) ≤ 28
 name_short InternalError = lit≤ tt

@@ -106,10 +106,9 @@ impl Field for DeliveryTag {
     ghost most = { 37 };
 
     fn append_to<F: Form>(&self, body: &mut Body) {
-        let all = self.bytes();
-        let len = self.len();
+        let bytes = self.as_slice();
         body.begin();
-        F::binary(&mut body.bytes, len as u8);
-        append(&mut body.bytes, &all[0..len]);
+        F::binary(&mut body.bytes, bytes.len() as u8);
+        append(&mut body.bytes, bytes);
     }
 }
