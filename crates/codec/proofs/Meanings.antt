@@ -6,6 +6,9 @@ use Rattle.codec.specs.Amqp.{Val, Vals, nil, cons, count, null, bool, uint, ulon
 use Rattle.codec.specs.Form.{Form, encoded, kept, left_out, keep, concat, list_of}
 use Rattle.codec.specs.Laws.{Lawful}
 use Rattle.codec.specs.Meaning.{keep_value, kept_of, all_kept, Ranged, AllRanged}
+use Rattle.amqp.specs.declared.header.Header.{Header}
+use Rattle.codec.specs.Values.{header_value}
+use Rattle.codec.specs.Headers.{header_bytes, MeansIn}
 use Rattle.codec.specs.Bodies.{Encodes}
 use Rattle.codec.proofs.Closing.{absent_null}
 use Rattle.codec.specs.Longer.{filled, out_absent}
@@ -61,12 +64,12 @@ module _ (F : Form) (L : Lawful F) where
         let s = split (left_out F.terse v) (encoded F v) (kept F vs) 252 l (out_short v) in
         keeps (left_out F.terse v) (encoded F v) (kept_of F.terse v) (kept F vs) (all_kept F.terse vs) (filled F L.sizes v) (means v r.0 s.0) (all_mean vs r.1 s.1)
 
-  pub encoded_means : (v : Val) (s : ArrayVec ℕ) → Encodes F 155 v s → Means (encoded F v) (kept_of F.terse v)
+  encoded_means : (v : Val) (s : ArrayVec ℕ) → Encodes F 155 v s → Means (encoded F v) (kept_of F.terse v)
   encoded_means v s e = means v e.ranged (omega (arith, ap length e.made))
 
 mutual
   -- a form that is not terse keeps all
-  pub keeps_all : (v : Val) → kept_of false v ≡ v
+  keeps_all : (v : Val) → kept_of false v ≡ v
   keeps_all null = refl
   keeps_all (bool b) = refl
   keeps_all (uint x) = refl
@@ -79,3 +82,11 @@ mutual
   keeps_each : (vs : Vals) → all_kept false vs ≡ vs
   keeps_each nil = refl
   keeps_each (cons v vs) = rw (keeps_all v, keeps_each vs)
+
+means_in : (terse : Bool) (bytes : List ℕ) (h : Header) → Means bytes (kept_of terse (header_value terse h)) → MeansIn terse bytes h
+means_in true bytes h m = m
+means_in false bytes h m = rw (keeps_all (header_value false h)) at m
+
+-- the bytes of a header mean it
+pub header_means : (F : Form) → Lawful F → (h : Header) (s : ArrayVec ℕ) → Encodes F 155 (header_value F.terse h) s → MeansIn F.terse (header_bytes F h) h
+header_means F L h s e = means_in F.terse (header_bytes F h) h (encoded_means F L (header_value F.terse h) s e)

@@ -1,5 +1,5 @@
 -- The bytes of a header in each form, and what they mean.
-use Rattle.std.specs.Prelude.{◌≡◌, ℕ, ◌≤◌, true, false, List, length, Some, None}
+use Rattle.std.specs.Prelude.{◌≡◌, ℕ, ◌≤◌, Bool, true, false, List, length, Some, None}
 use Rattle.amqp.specs.Headers.{measured}
 use Rattle.amqp.specs.Tags.{tag_bytes}
 use Rattle.amqp.specs.declared.tag.DeliveryTag.{DeliveryTag}
@@ -32,6 +32,11 @@ MeansHeader bytes h = Means bytes (trimmed (header_value true h))
 -- the bytes mean the header's value as it is
 abbrev pub MeansWhole : List ℕ → Header → Type 0
 MeansWhole bytes h = Means bytes (header_value false h)
+
+-- what the bytes mean in a form that is terse or not
+abbrev pub MeansIn : Bool → List ℕ → Header → Type 0
+MeansIn true bytes h = MeansHeader bytes h
+MeansIn false bytes h = MeansWhole bytes h
 
 -- a new delivery's transfer on handle 0: unsettled, of format 0
 abbrev pub plain : DeliveryTag → Transfer

@@ -1,17 +1,11 @@
 // The compact encoder: the shortest codes, and nothing that can be left out.
 ghost use Rattle.std.specs.Prelude.{◌≡◌};
 ghost use Rattle.codec.specs.Compact.{compact_form};
-ghost use Rattle.codec.specs.Headers.{compact_bytes, MeansHeader, AtMost255, PlainMeasures21};
-ghost use Rattle.codec.specs.Written.{written, after_write};
+ghost use Rattle.codec.specs.Headers.{compact_bytes, AtMost255, PlainMeasures21};
 ghost use Rattle.codec.specs.Forms.{compact_lawful};
-ghost use Rattle.codec.specs.Longer;
 
-use crate::encoder::Encoder;
 use crate::form::Form;
-use crate::header::encoded;
-use crate::scratch::{Scratch, append, copy_to};
-use amqp::error::MemoryError;
-use amqp::header::Header;
+use crate::scratch::{Scratch, append};
 
 #[derive(Clone, Copy)]
 pub struct Compact;
@@ -66,24 +60,6 @@ impl Form for Compact {
         } else {
             append(out, &[0xc0, len + 1, count]);
         }
-    }
-}
-
-impl Encoder for Compact {
-    ghost bytes = { λ _ h. compact_bytes h };
-
-    ghost widest = { λ e h. Longer.widest compact_form compact_lawful.sizes h };
-
-    fn size(&self, header: &Header) -> usize {
-        encoded::<Compact>(header).len()
-    }
-
-    fn write(&self, header: &Header, out: &mut [u8]) -> Result<usize, MemoryError>
-        ensures answer { result ≡ written (compact_bytes header.now) out.old }
-        ensures after { out.new ≡ after_write (compact_bytes header.now) out.old }
-        ensures meaning { MeansHeader (compact_bytes header.now) header.now }
-    {
-        copy_to(encoded::<Compact>(header).as_slice(), out)
     }
 }
 

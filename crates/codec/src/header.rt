@@ -2,12 +2,18 @@
 ghost use Rattle.amqp.specs.declared.header.Header.TheVariants as header;
 ghost use Rattle.codec.specs.Values.{header_value};
 ghost use Rattle.codec.specs.Bodies.{Encodes};
+ghost use Rattle.codec.specs.Headers.{header_bytes, MeansIn};
+ghost use Rattle.codec.specs.Written.{written, after_write};
+ghost use Rattle.codec.specs.Longer;
+ghost use Rattle.std.specs.Prelude.{◌≡◌};
 
 use crate::body::Body;
 use crate::descriptor::Descriptor;
+use crate::encoder::Encoder;
 use crate::field::{Absent, Field, Flag};
 use crate::form::Form;
-use crate::scratch::Scratch;
+use crate::scratch::{Scratch, copy_to};
+use amqp::error::MemoryError;
 use amqp::header::{Disposition, Header, Transfer};
 
 fn transfer<F: Form>(h: &Transfer) -> Scratch
@@ -44,11 +50,30 @@ fn disposition<F: Form>(h: &Disposition) -> Scratch
     body.close::<F>(Descriptor::Disposition)
 }
 
-pub(crate) fn encoded<F: Form>(header: &Header) -> Scratch
+fn encoded<F: Form>(header: &Header) -> Scratch
     ensures { Encodes F.Form.form 155 (header_value F.Form.form.terse header.now) result }
 {
     match header {
         Header::Transfer(h) => transfer::<F>(h),
         Header::Disposition(h) => disposition::<F>(h),
+    }
+}
+
+// Each form is an encoder.
+impl<F: Form> Encoder for F {
+    ghost bytes = { λ _ h. header_bytes F.form h };
+
+    ghost widest = { λ _ h. Longer.widest F.form F.lawful.sizes h };
+
+    fn size(&self, header: &Header) -> usize {
+        encoded::<F>(header).len()
+    }
+
+    fn write(&self, header: &Header, out: &mut [u8]) -> Result<usize, MemoryError>
+        ensures answer { result ≡ written (header_bytes F.form header.now) out.old }
+        ensures after { out.new ≡ after_write (header_bytes F.form header.now) out.old }
+        ensures meaning { MeansIn F.form.terse (header_bytes F.form header.now) header.now }
+    {
+        copy_to(encoded::<F>(header).as_slice(), out)
     }
 }

@@ -1,17 +1,11 @@
 // The wide encoder: the longest codes, and every field.
 ghost use Rattle.std.specs.Prelude.{◌≡◌};
 ghost use Rattle.codec.specs.Wide.{wide_form};
-ghost use Rattle.codec.specs.Headers.{wide_bytes, MeansWhole, AtMost255};
-ghost use Rattle.codec.specs.Written.{written, after_write};
+ghost use Rattle.codec.specs.Headers.{wide_bytes, AtMost255};
 ghost use Rattle.codec.specs.Forms.{wide_lawful};
-ghost use Rattle.codec.specs.Longer;
 
-use crate::encoder::Encoder;
 use crate::form::Form;
-use crate::header::encoded;
-use crate::scratch::{Scratch, append, copy_to};
-use amqp::error::MemoryError;
-use amqp::header::Header;
+use crate::scratch::{Scratch, append};
 
 #[derive(Clone, Copy)]
 pub struct Wide;
@@ -54,24 +48,6 @@ impl Form for Wide {
         let [a, b, c, d] = u32::from(len + 4).to_be_bytes();
         let [e, f, g, h] = u32::from(count).to_be_bytes();
         append(out, &[0xd0, a, b, c, d, e, f, g, h]);
-    }
-}
-
-impl Encoder for Wide {
-    ghost bytes = { λ _ h. wide_bytes h };
-
-    ghost widest = { λ e h. Longer.widest wide_form wide_lawful.sizes h };
-
-    fn size(&self, header: &Header) -> usize {
-        encoded::<Wide>(header).len()
-    }
-
-    fn write(&self, header: &Header, out: &mut [u8]) -> Result<usize, MemoryError>
-        ensures answer { result ≡ written (wide_bytes header.now) out.old }
-        ensures after { out.new ≡ after_write (wide_bytes header.now) out.old }
-        ensures meaning { MeansWhole (wide_bytes header.now) header.now }
-    {
-        copy_to(encoded::<Wide>(header).as_slice(), out)
     }
 }
 
