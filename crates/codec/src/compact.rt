@@ -1,14 +1,49 @@
 // The compact encoder: the shortest codes, and nothing that can be left out.
-ghost use Rattle.std.specs.Prelude.{◌≡◌};
-ghost use Rattle.codec.specs.Compact.{compact_form};
+ghost use Rattle.std.specs.Prelude.{◌≡◌, ◌+◌, ◌<◌, ◌≤◌, length};
+ghost use Rattle.arrayvec.specs.ArrayVec.{array_vec_len};
+ghost use Rattle.codec.specs.Bodies.{Appended};
+ghost use Rattle.codec.specs.Compact.{compact_form, shortest};
 ghost use Rattle.codec.specs.Headers.{compact_bytes, AtMost255, PlainMeasures21};
 ghost use Rattle.codec.specs.Forms.{compact_lawful};
 
 use crate::form::Form;
-use crate::scratch::{Scratch, append};
+use crate::scratch::{Scratch, append_coded};
 
 #[derive(Clone, Copy)]
 pub struct Compact;
+
+// The codes of a number by its size: of 0, before one byte, and before all digits.
+#[derive(Clone, Copy)]
+struct Codes {
+    none: u8,
+    small: u8,
+    wide: u8,
+}
+
+const UINT: Codes = Codes {
+    none: 0x43,
+    small: 0x52,
+    wide: 0x70,
+};
+
+const ULONG: Codes = Codes {
+    none: 0x44,
+    small: 0x53,
+    wide: 0x80,
+};
+
+fn append_shortest(out: &mut Scratch, codes: Codes, x: u64, digits: &[u8])
+    requires { (array_vec_len out.old + length digits.now < 256) × (1 ≤ length digits.now) }
+    ensures { Appended (length digits.now + 1) (shortest codes.none codes.small codes.wide digits.now x) out.old out.new }
+{
+    if x == 0 {
+        out.push(codes.none);
+    } else if x < 256 {
+        append_coded(out, codes.small, &[x as u8]);
+    } else {
+        append_coded(out, codes.wide, digits);
+    }
+}
 
 impl Form for Compact {
     ghost form = { compact_form };
@@ -24,33 +59,19 @@ impl Form for Compact {
     }
 
     fn uint(out: &mut Scratch, x: u32) {
-        if x == 0 {
-            out.push(0x43);
-        } else if x < 256 {
-            append(out, &[0x52, x as u8]);
-        } else {
-            let [a, b, c, d] = x.to_be_bytes();
-            append(out, &[0x70, a, b, c, d]);
-        }
+        append_shortest(out, UINT, u64::from(x), &x.to_be_bytes());
     }
 
     fn ulong(out: &mut Scratch, x: u64) {
-        if x == 0 {
-            out.push(0x44);
-        } else if x < 256 {
-            append(out, &[0x53, x as u8]);
-        } else {
-            let [a, b, c, d, e, f, g, h] = x.to_be_bytes();
-            append(out, &[0x80, a, b, c, d, e, f, g, h]);
-        }
+        append_shortest(out, ULONG, x, &x.to_be_bytes());
     }
 
     fn binary(out: &mut Scratch, len: u8) {
-        append(out, &[0xa0, len]);
+        append_coded(out, 0xa0, &[len]);
     }
 
     fn symbol(out: &mut Scratch, len: u8) {
-        append(out, &[0xa3, len]);
+        append_coded(out, 0xa3, &[len]);
     }
 
     // The size counts the byte of the count.
@@ -58,7 +79,7 @@ impl Form for Compact {
         if count == 0 {
             out.push(0x45);
         } else {
-            append(out, &[0xc0, len + 1, count]);
+            append_coded(out, 0xc0, &[len + 1, count]);
         }
     }
 }

@@ -1,5 +1,5 @@
 // Bytes of a header as they are made, at most 256.
-ghost use Rattle.std.specs.Prelude.{◌≡◌, ◌+◌, ◌≤◌, ◌++◌, length};
+ghost use Rattle.std.specs.Prelude.{◌≡◌, ◌+◌, ◌<◌, ◌≤◌, ◌∷◌, ◌++◌, length};
 ghost use Rattle.arrayvec.specs.ArrayVec.{array_vec_len};
 ghost use Rattle.codec.specs.Written.{written, after_write};
 
@@ -15,6 +15,16 @@ pub(crate) fn append(out: &mut Scratch, more: &[u8])
     ensures len { array_vec_len out.new ≡ array_vec_len out.old + length more.now }
 {
     out.try_extend_from_slice(more).unwrap();
+}
+
+// Appends a code, and the bytes that belong to it.
+pub(crate) fn append_coded(out: &mut Scratch, code: u8, more: &[u8])
+    requires { array_vec_len out.old + length more.now < 256 }
+    ensures items { out.new.items ≡ out.old.items ++ code ∷ more.now }
+    ensures len { array_vec_len out.new ≡ array_vec_len out.old + length more.now + 1 }
+{
+    out.push(code);
+    append(out, more);
 }
 
 // Copies the bytes to the front of `out`, or refuses and changes nothing.

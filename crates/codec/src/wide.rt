@@ -5,7 +5,7 @@ ghost use Rattle.codec.specs.Headers.{wide_bytes, AtMost255};
 ghost use Rattle.codec.specs.Forms.{wide_lawful};
 
 use crate::form::Form;
-use crate::scratch::{Scratch, append};
+use crate::scratch::{Scratch, append, append_coded};
 
 #[derive(Clone, Copy)]
 pub struct Wide;
@@ -20,34 +20,29 @@ impl Form for Wide {
     }
 
     fn boolean(out: &mut Scratch, x: bool) {
-        append(out, &[0x56, u8::from(x)]);
+        append_coded(out, 0x56, &[u8::from(x)]);
     }
 
     fn uint(out: &mut Scratch, x: u32) {
-        let [a, b, c, d] = x.to_be_bytes();
-        append(out, &[0x70, a, b, c, d]);
+        append_coded(out, 0x70, &x.to_be_bytes());
     }
 
     fn ulong(out: &mut Scratch, x: u64) {
-        let [a, b, c, d, e, f, g, h] = x.to_be_bytes();
-        append(out, &[0x80, a, b, c, d, e, f, g, h]);
+        append_coded(out, 0x80, &x.to_be_bytes());
     }
 
     fn binary(out: &mut Scratch, len: u8) {
-        let [a, b, c, d] = u32::from(len).to_be_bytes();
-        append(out, &[0xb0, a, b, c, d]);
+        append_coded(out, 0xb0, &u32::from(len).to_be_bytes());
     }
 
     fn symbol(out: &mut Scratch, len: u8) {
-        let [a, b, c, d] = u32::from(len).to_be_bytes();
-        append(out, &[0xb3, a, b, c, d]);
+        append_coded(out, 0xb3, &u32::from(len).to_be_bytes());
     }
 
     // The size counts the four bytes of the count.
     fn list(out: &mut Scratch, count: u8, len: u8) {
-        let [a, b, c, d] = u32::from(len + 4).to_be_bytes();
-        let [e, f, g, h] = u32::from(count).to_be_bytes();
-        append(out, &[0xd0, a, b, c, d, e, f, g, h]);
+        append_coded(out, 0xd0, &u32::from(len + 4).to_be_bytes());
+        append(out, &u32::from(count).to_be_bytes());
     }
 }
 
