@@ -17,7 +17,7 @@ pub record Met : Type 0 where
   pub count : ℕ
   pub gap : ℕ
 
-abbrev pub met : Body → Met
+abbrev pub met : {F : Type 0} → Body F → Met
 met b = record { bytes = b.bytes.items; count = b.count; gap = b.gap }
 
 abbrev pub none_met : Met
@@ -54,22 +54,22 @@ closed F code s =
     let t = ended F s in
     0x00 ∷ F.ulongs code ++ (F.lists t.count (length t.bytes) ++ t.bytes)
 
-pub record Empty (b : Body) : Type 0 where
+pub record Empty {F : Type 0} (b : Body F) : Type 0 where
   pub none : b.count + b.gap ≡ 0
   pub len : array_vec_len b.bytes + b.gap ≡ 0
 
 -- room for one more field, of at most n bytes
-pub record Room (n : ℕ) (b : Body) : Type 0 where
+pub record Room {F : Type 0} (n : ℕ) (b : Body F) : Type 0 where
   pub few : b.count + b.gap < 16
   pub len : array_vec_len b.bytes + b.gap + n ≤ 256
 
 -- from s to t there is one more field, of at most n bytes
-pub record Grew (n : ℕ) (s t : Body) : Type 0 where
+pub record Grew {F : Type 0} (n : ℕ) (s t : Body F) : Type 0 where
   pub one : t.count + t.gap ≡ s.count + s.gap + 1
   pub len : array_vec_len t.bytes + t.gap ≤ array_vec_len s.bytes + s.gap + n
 
 -- from s to t this field, of at most n bytes, was met
-pub record Took (F : Form) (n : ℕ) (v : Val) (s t : Body) : Type 0 where
+pub record Took {G : Type 0} (F : Form) (n : ℕ) (v : Val) (s t : Body G) : Type 0 where
   pub made : met t ≡ step F (met s) v
   pub grew : Grew n s t
   pub ranged : Ranged v

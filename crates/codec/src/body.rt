@@ -7,20 +7,22 @@ ghost use Rattle.codec.specs.Descriptors.{descriptor_code};
 use crate::descriptor::Descriptor;
 use crate::form::Form;
 use crate::scratch::{Scratch, append};
+use std::marker::PhantomData;
 
 const NULLS: [u8; 16] = [0x40; 16];
 
 #[derive(Drop)]
-pub(crate) struct Body {
+pub(crate) struct Body<F> {
     // The fields up to the last that is present, and how many they are.
     pub(crate) bytes: Scratch,
     count: u8,
     // How many absent ones follow.
     gap: u8,
+    form: PhantomData<F>,
 }
 
-impl Body {
-    pub(crate) fn new() -> Body
+impl<F: Form> Body<F> {
+    pub(crate) fn new() -> Body<F>
         ensures made { met result ≡ none_met }
         ensures empty { Empty result }
     {
@@ -28,6 +30,7 @@ impl Body {
             bytes: Scratch::new(),
             count: 0,
             gap: 0,
+            form: PhantomData,
         }
     }
 
@@ -62,7 +65,7 @@ impl Body {
     }
 
     // Leaves out the absent fields at the end, or writes them.
-    fn end<F: Form>(&mut self)
+    fn end(&mut self)
         requires { Room 0 self.old }
         ensures made { met self.new ≡ ended F.Form.form (met self.old) }
         ensures len { array_vec_len self.new.bytes ≤ array_vec_len self.old.bytes + self.old.gap }
@@ -73,12 +76,12 @@ impl Body {
     }
 
     // The described list of these fields.
-    pub(crate) fn close<F: Form>(mut self, descriptor: Descriptor) -> Scratch
+    pub(crate) fn close(mut self, descriptor: Descriptor) -> Scratch
         requires { (array_vec_len self.bytes + self.gap ≤ 230) × (self.count + self.gap < 16) }
         ensures made { result.items ≡ closed F.Form.form (descriptor_code descriptor) (met self) }
         ensures len { array_vec_len result ≤ array_vec_len self.bytes + self.gap + 19 }
     {
-        self.end::<F>();
+        self.end();
         let fields = self.bytes.as_slice();
         let mut list = Scratch::new();
         list.push(0x00);

@@ -18,7 +18,7 @@ pub(crate) trait Field {
     // How many bytes it takes at most.
     ghost most: { ℕ };
 
-    fn append_to<F: Form>(&self, body: &mut Body)
+    fn append_to<F: Form>(&self, body: &mut Body<F>)
         requires { Room most body.old }
         ensures { Took F.Form.form most (value F.Form.form.terse self.now) body.old body.new };
 }
@@ -31,7 +31,7 @@ impl Field for Absent {
 
     ghost most = { 1 };
 
-    fn append_to<F: Form>(&self, body: &mut Body) {
+    fn append_to<F: Form>(&self, body: &mut Body<F>) {
         body.skip();
     }
 }
@@ -41,10 +41,10 @@ impl<T: Field> Field for Option<T> {
 
     ghost most = { max 1 T.Field.most };
 
-    fn append_to<F: Form>(&self, body: &mut Body) {
+    fn append_to<F: Form>(&self, body: &mut Body<F>) {
         match self {
-            None => Absent.append_to::<F>(body),
-            Some(x) => x.append_to::<F>(body),
+            None => Absent.append_to(body),
+            Some(x) => x.append_to(body),
         }
     }
 }
@@ -54,7 +54,7 @@ impl Field for bool {
 
     ghost most = { 2 };
 
-    fn append_to<F: Form>(&self, body: &mut Body) {
+    fn append_to<F: Form>(&self, body: &mut Body<F>) {
         body.begin();
         F::boolean(&mut body.bytes, *self);
     }
@@ -69,11 +69,11 @@ impl Field for Flag {
 
     ghost most = { 2 };
 
-    fn append_to<F: Form>(&self, body: &mut Body) {
+    fn append_to<F: Form>(&self, body: &mut Body<F>) {
         if F::terse() && !self.0 {
-            Absent.append_to::<F>(body);
+            Absent.append_to(body);
         } else {
-            self.0.append_to::<F>(body);
+            self.0.append_to(body);
         }
     }
 }
@@ -83,7 +83,7 @@ impl Field for u32 {
 
     ghost most = { 5 };
 
-    fn append_to<F: Form>(&self, body: &mut Body) {
+    fn append_to<F: Form>(&self, body: &mut Body<F>) {
         body.begin();
         F::uint(&mut body.bytes, *self);
     }
@@ -94,7 +94,7 @@ impl Field for u64 {
 
     ghost most = { 9 };
 
-    fn append_to<F: Form>(&self, body: &mut Body) {
+    fn append_to<F: Form>(&self, body: &mut Body<F>) {
         body.begin();
         F::ulong(&mut body.bytes, *self);
     }
@@ -105,7 +105,7 @@ impl Field for DeliveryTag {
 
     ghost most = { 37 };
 
-    fn append_to<F: Form>(&self, body: &mut Body) {
+    fn append_to<F: Form>(&self, body: &mut Body<F>) {
         let bytes = self.as_slice();
         body.begin();
         F::binary(&mut body.bytes, bytes.len() as u8);

@@ -19,35 +19,35 @@ use amqp::header::{Disposition, Header, Transfer};
 fn transfer<F: Form>(h: &Transfer) -> Scratch
     ensures { Encodes F.Form.form 155 (header_value F.Form.form.terse (header.Transfer h.now)) result }
 {
-    let mut body = Body::new();
-    h.handle.append_to::<F>(&mut body);
-    h.delivery_id.append_to::<F>(&mut body);
-    h.delivery_tag.append_to::<F>(&mut body);
-    h.message_format.append_to::<F>(&mut body);
-    h.settled.append_to::<F>(&mut body);
-    Flag(h.more).append_to::<F>(&mut body);
+    let mut body = Body::<F>::new();
+    h.handle.append_to(&mut body);
+    h.delivery_id.append_to(&mut body);
+    h.delivery_tag.append_to(&mut body);
+    h.message_format.append_to(&mut body);
+    h.settled.append_to(&mut body);
+    Flag(h.more).append_to(&mut body);
     // The receiver's settle mode.
-    Absent.append_to::<F>(&mut body);
-    h.state.append_to::<F>(&mut body);
-    Flag(h.resume).append_to::<F>(&mut body);
-    Flag(h.aborted).append_to::<F>(&mut body);
-    Flag(h.batchable).append_to::<F>(&mut body);
-    body.close::<F>(Descriptor::Transfer)
+    Absent.append_to(&mut body);
+    h.state.append_to(&mut body);
+    Flag(h.resume).append_to(&mut body);
+    Flag(h.aborted).append_to(&mut body);
+    Flag(h.batchable).append_to(&mut body);
+    body.close(Descriptor::Transfer)
 }
 
 fn disposition<F: Form>(h: &Disposition) -> Scratch
     ensures { Encodes F.Form.form 155 (header_value F.Form.form.terse (header.Disposition h.now)) result }
 {
-    let mut body = Body::new();
+    let mut body = Body::<F>::new();
     // The role: a sender's is false.
-    false.append_to::<F>(&mut body);
-    h.first.append_to::<F>(&mut body);
+    false.append_to(&mut body);
+    h.first.append_to(&mut body);
     // The last id.
-    Absent.append_to::<F>(&mut body);
-    Flag(h.settled).append_to::<F>(&mut body);
-    h.state.append_to::<F>(&mut body);
-    Flag(h.batchable).append_to::<F>(&mut body);
-    body.close::<F>(Descriptor::Disposition)
+    Absent.append_to(&mut body);
+    Flag(h.settled).append_to(&mut body);
+    h.state.append_to(&mut body);
+    Flag(h.batchable).append_to(&mut body);
+    body.close(Descriptor::Disposition)
 }
 
 fn encoded<F: Form>(header: &Header) -> Scratch

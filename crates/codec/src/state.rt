@@ -24,7 +24,7 @@ impl Field for Condition {
 
     ghost most = { 33 };
 
-    fn append_to<F: Form>(&self, body: &mut Body) {
+    fn append_to<F: Form>(&self, body: &mut Body<F>) {
         let name = condition_name(self.0);
         body.begin();
         F::symbol(&mut body.bytes, name.len() as u8);
@@ -35,11 +35,11 @@ impl Field for Condition {
 fn described_error<F: Form>(condition: AmqpError) -> Scratch
     ensures { Encodes F.Form.form 54 (error_value condition) result }
 {
-    let mut body = Body::new();
-    Condition(condition).append_to::<F>(&mut body);
-    Absent.append_to::<F>(&mut body);
-    Absent.append_to::<F>(&mut body);
-    body.close::<F>(Descriptor::Error)
+    let mut body = Body::<F>::new();
+    Condition(condition).append_to(&mut body);
+    Absent.append_to(&mut body);
+    Absent.append_to(&mut body);
+    body.close(Descriptor::Error)
 }
 
 impl Field for AmqpError {
@@ -47,7 +47,7 @@ impl Field for AmqpError {
 
     ghost most = { 54 };
 
-    fn append_to<F: Form>(&self, body: &mut Body) {
+    fn append_to<F: Form>(&self, body: &mut Body<F>) {
         body.begin();
         append(&mut body.bytes, described_error::<F>(*self).as_slice());
     }
@@ -56,28 +56,28 @@ impl Field for AmqpError {
 fn received<F: Form>(at: Received) -> Scratch
     ensures { Encodes F.Form.form 33 (state_value (state.Received at)) result }
 {
-    let mut body = Body::new();
-    at.section_number.append_to::<F>(&mut body);
-    at.section_offset.append_to::<F>(&mut body);
-    body.close::<F>(Descriptor::Received)
+    let mut body = Body::<F>::new();
+    at.section_number.append_to(&mut body);
+    at.section_offset.append_to(&mut body);
+    body.close(Descriptor::Received)
 }
 
 fn rejected<F: Form>(error: Option<AmqpError>) -> Scratch
     ensures { Encodes F.Form.form 73 (state_value (state.Rejected error)) result }
 {
-    let mut body = Body::new();
-    error.append_to::<F>(&mut body);
-    body.close::<F>(Descriptor::Rejected)
+    let mut body = Body::<F>::new();
+    error.append_to(&mut body);
+    body.close(Descriptor::Rejected)
 }
 
 fn modified<F: Form>(failed: Option<bool>, undeliverable: Option<bool>) -> Scratch
     ensures { Encodes F.Form.form 24 (state_value (state.Modified failed undeliverable)) result }
 {
-    let mut body = Body::new();
-    failed.append_to::<F>(&mut body);
-    undeliverable.append_to::<F>(&mut body);
-    Absent.append_to::<F>(&mut body);
-    body.close::<F>(Descriptor::Modified)
+    let mut body = Body::<F>::new();
+    failed.append_to(&mut body);
+    undeliverable.append_to(&mut body);
+    Absent.append_to(&mut body);
+    body.close(Descriptor::Modified)
 }
 
 fn described_state<F: Form>(state: DeliveryState) -> Scratch
@@ -85,9 +85,9 @@ fn described_state<F: Form>(state: DeliveryState) -> Scratch
 {
     match state {
         DeliveryState::Received(at) => received::<F>(at),
-        DeliveryState::Accepted => Body::new().close::<F>(Descriptor::Accepted),
+        DeliveryState::Accepted => Body::<F>::new().close(Descriptor::Accepted),
         DeliveryState::Rejected(error) => rejected::<F>(error),
-        DeliveryState::Released => Body::new().close::<F>(Descriptor::Released),
+        DeliveryState::Released => Body::<F>::new().close(Descriptor::Released),
         DeliveryState::Modified {
             delivery_failed,
             undeliverable_here,
@@ -100,7 +100,7 @@ impl Field for DeliveryState {
 
     ghost most = { 73 };
 
-    fn append_to<F: Form>(&self, body: &mut Body) {
+    fn append_to<F: Form>(&self, body: &mut Body<F>) {
         body.begin();
         append(&mut body.bytes, described_state::<F>(*self).as_slice());
     }
