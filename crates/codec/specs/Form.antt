@@ -1,5 +1,6 @@
 -- A form of encoding: how each value and the front of a list are written, and what is left out.
 use Rattle.std.specs.Prelude.{ℕ, Bool, true, false, cond, List, [], ◌∷◌, ◌++◌, length}
+pub use Rattle.std.specs.List.{concat}
 use Rattle.codec.specs.Amqp.{Val, Vals, nil, cons, null, bool, uint, ulong, binary, symbol, list, described}
 
 pub record Form : Type 0 where
@@ -33,10 +34,6 @@ abbrev pub keep : {A : Type 0} → Bool → A → List A → List A
 keep true b [] = []
 keep true b (t ∷ ts) = b ∷ t ∷ ts
 keep false b ts = b ∷ ts
-
-abbrev pub concat : List (List ℕ) → List ℕ
-concat [] = []
-concat (b ∷ bs) = b ++ concat bs
 
 -- a list of fields, each given by its bytes
 abbrev pub list_of : Form → List (List ℕ) → List ℕ
