@@ -1,10 +1,12 @@
 -- Fields that were met one by one, closed, are the list of their values.
-use Rattle.std.proofs.Common.{◌≡◌, ℕ, ◌+◌, Bool, true, false, cond, List, [], ◌∷◌, ◌++◌, length, replicate, sym, refl, ap, ◌∙◌, append_assoc, arith}
+use Rattle.std.proofs.Common.{◌≡◌, ℕ, ◌+◌, ◌^◌, ◌<◌, ◌≤◌, Bool, true, false, cond, List, [], ◌∷◌, ◌++◌, length, replicate, sym, refl, ap, ◌∙◌, append_assoc, arith}
 use Rattle.std.proofs.lemmas.List.{append-nil, replicate_more}
 use Rattle.std.proofs.lemmas.Bool.{false≢true}
+use Rattle.arrayvec.specs.ArrayVec.{ArrayVec, array_vec_len}
+use Rattle.codec.specs.Meaning.{AllRanged}
 use Rattle.codec.specs.Amqp.{Val, Vals, nil, cons, null, bool, uint, ulong, binary, symbol, list, described}
 use Rattle.codec.specs.Form.{Form, encoded, kept, absent, keep, concat}
-use Rattle.codec.specs.Bodies.{Met, none_met, skipped, with_nulls, added, step, steps, closed}
+use Rattle.codec.specs.Bodies.{Met, none_met, skipped, with_nulls, added, step, steps, closed, Encodes}
 
 -- t is s with these fields, each given by its bytes, met after it
 abbrev After : Bool → Met → List (List ℕ) → Met → Type 0
@@ -51,8 +53,8 @@ close_after true [] t (p, q) = (rw p, omega arith)
 close_after true (u ∷ us) t (p, q) = (p, omega arith)
 close_after false us t (p, q) = (p, omega arith)
 
--- the bytes of a described list, from what `close` answers
-pub closes : (F : Form) (code : ℕ) (vs : Vals) (s : Met) (r : List ℕ) → r ≡ closed F code s → s ≡ steps F none_met vs → r ≡ encoded F (described (ulong code) (list vs))
-closes F code vs s r p e =
+-- what `close` answers is the described list of the fields that were met
+pub closes : {F : Form} {n code : ℕ} {vs : Vals} {r : ArrayVec ℕ} (s : Met) → r.items ≡ closed F code s → s ≡ steps F none_met vs → array_vec_len r ≤ n → code < 2 ^ 64 → AllRanged vs → Encodes F n (described (ulong code) (list vs)) r
+closes {F} {n} {code} {vs} s p e l c a =
     let q = close_after F.terse (kept F vs) (steps F none_met vs) (walk F vs none_met) in
-    p ∙ (ap (λ t. closed F code t) e ∙ rw (q.0, q.1))
+    record { made = p ∙ (ap (λ t. closed F code t) e ∙ rw (q.0, q.1)); len = l; ranged = (c, a) }

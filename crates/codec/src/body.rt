@@ -75,7 +75,7 @@ impl<F: Form> Body<F> {
         }
     }
 
-    // The described list of these fields.
+    // The list of these fields, described: 0x00, the descriptor and the list (Part 1, 1.2).
     pub(crate) fn close(mut self, descriptor: Descriptor) -> Scratch
         requires { (array_vec_len self.bytes + self.gap ≤ 230) × (self.count + self.gap < 16) }
         ensures made { result.items ≡ closed F.Form.form (descriptor_code descriptor) (met self) }

@@ -1,11 +1,11 @@
 // Headers: described lists of their fields (Part 2, 2.7.5 and 2.7.6).
+ghost use Rattle.std.specs.Prelude.{◌≡◌};
 ghost use Rattle.amqp.specs.declared.header.Header.TheVariants as header;
 ghost use Rattle.codec.specs.Values.{header_value};
 ghost use Rattle.codec.specs.Bodies.{Encodes};
 ghost use Rattle.codec.specs.Headers.{header_bytes, MeansIn};
 ghost use Rattle.codec.specs.Written.{written, after_write};
 ghost use Rattle.codec.specs.Longer;
-ghost use Rattle.std.specs.Prelude.{◌≡◌};
 
 use crate::body::Body;
 use crate::descriptor::Descriptor;
