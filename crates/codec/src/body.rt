@@ -77,7 +77,8 @@ impl<F: Form> Body<F> {
 
     // The list of these fields, described: 0x00, the descriptor and the list (Part 1, 1.2).
     pub(crate) fn close(mut self, descriptor: Descriptor) -> Scratch
-        requires { (array_vec_len self.bytes + self.gap ≤ 230) × (self.count + self.gap < 16) }
+        requires few { self.count + self.gap < 16 }
+        requires len { array_vec_len self.bytes + self.gap ≤ 230 }
         ensures made { result.items ≡ closed F.Form.form (descriptor_code descriptor) (met self) }
         ensures len { array_vec_len result ≤ array_vec_len self.bytes + self.gap + 19 }
     {

@@ -33,7 +33,8 @@ const ULONG: Codes = Codes {
 };
 
 fn append_shortest(out: &mut Scratch, codes: Codes, x: u64, digits: &[u8])
-    requires { (array_vec_len out.old + length digits.now < 256) × (1 ≤ length digits.now) }
+    requires room { array_vec_len out.old + length digits.now < 256 }
+    requires some { 1 ≤ length digits.now }
     ensures { Appended (length digits.now + 1) (shortest codes.none codes.small codes.wide digits.now x) out.old out.new }
 {
     if x == 0 {

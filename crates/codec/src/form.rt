@@ -38,7 +38,8 @@ pub(crate) trait Form {
 
     // What comes before the fields of a list.
     fn list(out: &mut Scratch, count: u8, len: u8)
-        requires { (array_vec_len out.old + 9 ≤ 256) × (len < 252) }
+        requires room { array_vec_len out.old + 9 ≤ 256 }
+        requires short { len < 252 }
         ensures { Appended 9 (form.lists count len) out.old out.new };
 
     ghost lawful: { Lawful form };

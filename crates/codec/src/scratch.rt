@@ -35,6 +35,7 @@ pub(crate) fn copy_to(bytes: &[u8], out: &mut [u8]) -> Result<usize, MemoryError
     if out.len() < bytes.len() {
         return Err(MemoryError::TooShort);
     }
-    out[0..bytes.len()].copy_from_slice(bytes);
+    // By index: of bytes written through `get_mut`, a proof knows only how many they are.
+    out[..bytes.len()].copy_from_slice(bytes);
     Ok(bytes.len())
 }
