@@ -85,7 +85,7 @@ impl Form for Compact {
     }
 }
 
-// A compact header is at most 255 bytes long.
+// A compact header is at most 255 bytes long: `short`, a lemma about every form, said of this one.
 pub fn compact_is_at_most_255()
     ensures { AtMost255 compact_bytes }
 {}

@@ -49,6 +49,7 @@ impl<T: Field> Field for Option<T> {
     }
 }
 
+// Each type has its own method of a form: one impl for all would need a trait that picks it, and is no shorter.
 impl Field for bool {
     ghost value = { λ _ x. boolean x };
 

@@ -15,6 +15,7 @@ pub(crate) trait Form {
     fn terse() -> bool
         ensures { result ≡ form.terse };
 
+    // One method for each of AMQP's types: a shared one would take the type as a number.
     fn boolean(out: &mut Scratch, x: bool)
         requires { array_vec_len out.old + 2 ≤ 256 }
         ensures { Appended 2 (form.booleans x) out.old out.new };
