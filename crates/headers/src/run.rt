@@ -1,10 +1,10 @@
 // The lines of a run: `compact HEX` or `wide HEX`.
 use amqp::header::Header;
 use anyhow::{Result, bail, ensure};
-use codec_forms::compact::Compact;
-use codec_forms::encoder::Encoder;
-use codec_forms::error::ReadError;
-use codec_forms::wide::Wide;
+use codec::compact::Compact;
+use codec::encoder::Encoder;
+use codec::error::ReadError;
+use codec::wide::Wide;
 use headers_text::hex::{HexFault, decode};
 use headers_text::show::Shown;
 use reader::reader::Reader;
