@@ -1,8 +1,8 @@
 -- The tags that a peer's attach brings.
 use Rattle.std.specs.Prelude.{ℕ, zero, suc, ◌<◌, ◌≤◌, Bool, false, ◌||◌, List, [], length, take, None, ◌≢◌, nat_lt, slice_index_or}
+use Rattle.std.specs.List.{list_any}
 use Rattle.std.specs.Str.{bytes_eq}
 use Rattle.unsettled.specs.declared.peer.PeerDelivery.{PeerDelivery}
-use Rattle.unsettled.specs.Lists.{any}
 
 -- a pair's tag
 abbrev pub bytes_of : PeerDelivery → List ℕ
@@ -10,7 +10,7 @@ bytes_of p = p.tag.now
 
 -- some pair has this tag
 abbrev pub among : List ℕ → List PeerDelivery → Bool
-among t ps = any (λ p. bytes_eq (bytes_of p) t) ps
+among t ps = list_any (λ p. bytes_eq (bytes_of p) t) ps
 
 -- a pair with no bytes, where a list has none
 abbrev pub blank : PeerDelivery

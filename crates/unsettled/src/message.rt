@@ -39,10 +39,5 @@ impl Place {
 pub fn any_outside(slots: &[Slot<UnsettledMessage>], pool: &[u8]) -> bool
     ensures { result ≡ any_outside slots.now (length pool.now) }
 {
-    for slot in slots {
-        if slot.entry.place.is_outside(pool) {
-            return true;
-        }
-    }
-    false
+    slots.iter().any(|slot| slot.entry.place.is_outside(pool))
 }

@@ -1,31 +1,14 @@
-use Rattle.std.proofs.Common.{length, ap, ◌∙◌, arith}
-use Rattle.unsettled.specs.Tables.{place}
-use Rattle.unsettled.proofs.Places.{place_here, place_more, place_end}
+use Rattle.std.proofs.Common.{◌≡◌, sym, ap, ◌∙◌, rules, tests}
+use Rattle.std.proofs.lemmas.Iterator.{YieldsList-from_slice}
+use Rattle.std.proofs.lemmas.Iterator.Search.{position_from_yields_List}
+use Rattle.unsettled.specs.Tables.{has_tag, place}
 use Rattle.unsettled.proofs.Same.{same_tag_is}
 use Rattle.unsettled.proofs.map.UnsettledMap.find.Goals as goal
 
-pub returns-then-same : goal.returns-then-same
-returns-then-same g c =
+pub returns-clause-value : goal.returns-clause-value
+returns-clause-value g c =
     let t = c.args.tag.now in
-    let x = c.slot-item.result in
-    let l = ap length c.front-slot-items.ensures in
-    record {
-      value =
-          place_here t c.front-slot-items.result.now c.loop-i.i x c.loop-i.invariant (omega arith) c.slot-item.is (same_tag_is x.tag t _ c.same.ensures ∙ c.if-same.true)
-          ∙ ap (place t) c.front-slot-items.ensures;
-      within = omega arith;
-    }
-
-pub loop-i-preserved : goal.loop-i-preserved
-loop-i-preserved g c =
-    let t = c.args.tag.now in
-    let x = c.slot-item.result in
-    place_more t c.front-slot-items.result.now c.loop-i.i x c.loop-i.invariant (omega arith) c.slot-item.is (same_tag_is x.tag t _ c.same.ensures ∙ c.if-same.false)
-
-pub returns : goal.returns
-returns g c =
-    let t = c.args.tag.now in
-    record {
-      value = place_end t c.front-slot-items.result.now c.loop-i.i c.loop-i.invariant (omega arith) ∙ ap (place t) c.front-slot-items.ensures;
-      within = tt;
-    }
+    let xs = c.front.result.now in
+    position_from_yields_List (has_tag t) _ _ c.position.result c.position.ensures.ran (YieldsList-from_slice xs cc)
+    (λ x b q k. (search rules, sym (same_tag_is x.now.tag t b (search rules))))
+    ∙ ap (place t) c.front.ensures

@@ -1,0 +1,62 @@
+-- The first element that passes a test: where it stands, what it is, and what replaces it.
+use Rattle.std.proofs.Common.{◌≡◌, ℕ, zero, suc, ◌+◌, ◌<◌, Bool, true, false, cond, not, ltb, List, [], ◌∷◌, length, get_or, set, is_some, Some, None, Option, sym, refl, ap, ◌∙◌, arith}
+use Rattle.std.specs.List.{find, list_any, position, position_or_len}
+use Rattle.std.specs.Option.{option_map}
+use Rattle.std.proofs.lemmas.List.Folds.{list_any_at}
+use Rattle.std.proofs.lemmas.List.Quantifiers.{position-Some}
+use Rattle.std.proofs.lemmas.List.Recursion.{found_at}
+use Rattle.std.proofs.lemmas.Bool.Decides.{nat_tests}
+use Rattle.unsettled.specs.Lists.{replaced}
+
+-- a place is one further on in a longer list
+pub position-cons : {X : Type 0} (p : X → Bool) (x : X) (xs : List X) → position p (x ∷ xs) ≡ cond (p x) (Some 0) (option_map suc (position p xs))
+position-cons p x xs = go (p x) (position_or_len p xs) (length xs)
+  where
+    go : (b : Bool) (k n : ℕ) → cond (ltb (cond (not b) (1 + k) 0) (suc n)) (Some (cond (not b) (1 + k) 0)) None ≡ cond b (Some 0) (option_map suc (cond (ltb k n) (Some k) None))
+    go true k n = grind (arith, nat_tests)
+    go false k n = grind (arith, nat_tests)
+
+-- an element that passes, and none that stands before it does
+pub record FirstAt {X : Type 0} (p : X → Bool) (xs : List X) (i : ℕ) : Type 0 where
+  pub below : i < length xs
+  pub any : list_any p xs ≡ true
+  pub found : (d : X) → find p xs ≡ Some (get_or xs i d)
+  pub written : (y : X) → set xs i y ≡ replaced p y xs
+
+-- no element passes
+pub record Nowhere {X : Type 0} (p : X → Bool) (xs : List X) : Type 0 where
+  pub any : list_any p xs ≡ false
+  pub found : find p xs ≡ None
+  pub written : (y : X) → xs ≡ replaced p y xs
+
+written_at : {X : Type 0} (p : X → Bool) (y d : X) (xs : List X) (i : ℕ) → i < length xs → p (get_or xs i d) ≡ true → ((k : ℕ) → k < i → p (get_or xs k d) ≡ false) → set xs i y ≡ replaced p y xs
+written_at p y d [] i lt h f = refl
+written_at p y d (x ∷ xs) zero lt h f = sym (ap (λ b. cond b (y ∷ xs) (x ∷ replaced p y xs)) h)
+written_at p y d (x ∷ xs) (suc i) lt h f =
+    ap (λ ys. x ∷ ys) (written_at p y d xs i (omega arith) h (λ k l. f (suc k) (omega arith)))
+    ∙ sym (ap (λ b. cond b (y ∷ xs) (x ∷ replaced p y xs)) (f 0 (omega arith)))
+
+pub first_at : {X : Type 0} (p : X → Bool) (xs : List X) (i : ℕ) (d : X) → Some i ≡ position p xs → FirstAt p xs i
+first_at p xs i d e =
+    let h = position-Some p xs i d (sym e) in
+    record {
+      below = h.0;
+      any = list_any_at p xs i d h.0 h.1;
+      found = λ d. let k = position-Some p xs i d (sym e) in found_at (find p) p Some None refl (λ _ _. refl) xs i d k.0 k.2 k.1;
+      written = λ y. written_at p y d xs i h.0 h.1 h.2;
+    }
+
+pub nowhere : {X : Type 0} (p : X → Bool) (xs : List X) → None ≡ position p xs → Nowhere p xs
+nowhere p [] e = record { any = refl; found = refl; written = λ y. refl }
+nowhere p (x ∷ xs) e = go (p x) (position p xs) refl refl (e ∙ position-cons p x xs)
+  where
+    go : (b : Bool) (o : Option ℕ) → p x ≡ b → position p xs ≡ o → None ≡ cond b (Some 0) (option_map suc o) → Nowhere p (x ∷ xs)
+    go true o q r h = absurd (cc)
+    go false (Some i) q r h = absurd (cc)
+    go false None q r h =
+        let n = nowhere p xs (sym r) in
+        record { any = rw q n.any; found = rw q n.found; written = λ y. rw q (ap (λ ys. x ∷ ys) (n.written y)) }
+
+pub is_some-position : {X : Type 0} (p : X → Bool) (xs : List X) (o : Option ℕ) (d : ℕ → X) → o ≡ position p xs → is_some o ≡ list_any p xs
+is_some-position p xs None d e = sym (nowhere p xs e).any
+is_some-position p xs (Some i) d e = sym (first_at p xs i (d i) e).any
