@@ -36,27 +36,28 @@ written_at p y d (x ∷ xs) (suc i) lt h f =
     ap (λ ys. x ∷ ys) (written_at p y d xs i (omega arith) h (λ k l. f (suc k) (omega arith)))
     ∙ sym (ap (λ b. cond b (y ∷ xs) (x ∷ replaced p y xs)) (f 0 (omega arith)))
 
-pub first_at : {X : Type 0} (p : X → Bool) (xs : List X) (i : ℕ) (d : X) → Some i ≡ position p xs → FirstAt p xs i
-first_at p xs i d e =
-    let h = position-Some p xs i d (sym e) in
+pub first_at : {X : Type 0} (p : X → Bool) (xs : List X) (i : ℕ) → Some i ≡ position p xs → FirstAt p xs i
+first_at p [] i e = absurd (cc)
+first_at p (x ∷ xs) i e =
+    let h = position-Some p (x ∷ xs) i x (sym e) in
     record {
       below = h.0;
-      any = list_any_at p xs i d h.0 h.1;
-      found = λ d. let k = position-Some p xs i d (sym e) in found_at (find p) p Some None refl (λ _ _. refl) xs i d k.0 k.2 k.1;
-      written = λ y. written_at p y d xs i h.0 h.1 h.2;
+      any = list_any_at p (x ∷ xs) i x h.0 h.1;
+      found = λ d. let k = position-Some p (x ∷ xs) i d (sym e) in found_at (find p) p Some None refl (λ _ _. refl) (x ∷ xs) i d k.0 k.2 k.1;
+      written = λ y. written_at p y x (x ∷ xs) i h.0 h.1 h.2;
     }
 
 pub nowhere : {X : Type 0} (p : X → Bool) (xs : List X) → None ≡ position p xs → Nowhere p xs
 nowhere p [] e = record { any = refl; found = refl; written = λ y. refl }
-nowhere p (x ∷ xs) e = go (p x) (position p xs) refl refl (e ∙ position-cons p x xs)
+nowhere p (x ∷ xs) e = go (p x) (position p xs) refl refl (e ∙ position-cons p x xs) (nowhere p xs)
   where
-    go : (b : Bool) (o : Option ℕ) → p x ≡ b → position p xs ≡ o → None ≡ cond b (Some 0) (option_map suc o) → Nowhere p (x ∷ xs)
-    go true o q r h = absurd (cc)
-    go false (Some i) q r h = absurd (cc)
-    go false None q r h =
-        let n = nowhere p xs (sym r) in
+    go : (b : Bool) (o : Option ℕ) → p x ≡ b → position p xs ≡ o → None ≡ cond b (Some 0) (option_map suc o) → (None ≡ position p xs → Nowhere p xs) → Nowhere p (x ∷ xs)
+    go true o q r h f = absurd (cc)
+    go false (Some i) q r h f = absurd (cc)
+    go false None q r h f =
+        let n = f (sym r) in
         record { any = rw q n.any; found = rw q n.found; written = λ y. rw q (ap (λ ys. x ∷ ys) (n.written y)) }
 
-pub is_some-position : {X : Type 0} (p : X → Bool) (xs : List X) (o : Option ℕ) (d : ℕ → X) → o ≡ position p xs → is_some o ≡ list_any p xs
-is_some-position p xs None d e = sym (nowhere p xs e).any
-is_some-position p xs (Some i) d e = sym (first_at p xs i (d i) e).any
+pub is_some-position : {X : Type 0} (p : X → Bool) (xs : List X) (o : Option ℕ) → o ≡ position p xs → is_some o ≡ list_any p xs
+is_some-position p xs None e = sym (nowhere p xs e).any
+is_some-position p xs (Some i) e = sym (first_at p xs i e).any

@@ -1,3 +1,4 @@
 pub mod Firsts
 pub mod Legal
+pub mod Memory
 pub mod Same

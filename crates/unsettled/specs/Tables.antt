@@ -2,14 +2,15 @@
 use Rattle.std.specs.Prelude.{ℕ, Bool, cond, ◌&&◌, ◌||◌, List, [], ◌∷◌, ◌++◌, length, take, Option, ◌==◌, nat_le, nat_lt, slice_index_or, slice_set}
 use Rattle.std.specs.List.{find, list_any, position}
 use Rattle.std.specs.Option.{option_map, unwrap_or}
+use Rattle.std.specs.Str.{bytes_eq}
 use Rattle.amqp.specs.declared.tag.DeliveryTag.{DeliveryTag}
 use Rattle.unsettled.specs.declared.slot.Slot.{Slot}
 use Rattle.unsettled.specs.declared.map.UnsettledMap.{UnsettledMap}
 use Rattle.unsettled.specs.Lists.{replaced}
 
--- two tags are one where their lengths and their words are equal
+-- two tags are one where their lengths and their bytes are equal
 unfoldable pub same_tag : DeliveryTag → DeliveryTag → Bool
-same_tag s t = s.len == t.len && (s.a == t.a && (s.b == t.b && (s.c == t.c && s.d == t.d)))
+same_tag s t = s.len == t.len && bytes_eq s.bytes t.bytes
 
 -- what a table holds, in order
 abbrev pub held : {M : Type 0} → UnsettledMap M → List (Slot M)

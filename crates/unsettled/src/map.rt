@@ -57,11 +57,12 @@ impl<'a, M: Copy> UnsettledMap<'a, M> {
     }
 
     // Where a tag stands first.
+    #[tactic(auto, unfolding(crate::specs::Tables::same_tag))]
     pub fn find(&self, tag: &DeliveryTag) -> Option<usize>
         ensures value { result ≡ place tag.now (held self.now) }
         ensures within { IfSome result (λ i. i < length (held self.now)) }
     {
-        self.front().iter().position(|slot| slot.tag.same(tag))
+        self.front().iter().position(|slot| slot.tag == *tag)
     }
 
     pub fn contains(&self, tag: &DeliveryTag) -> bool
