@@ -58,6 +58,6 @@ nowhere p (x ∷ xs) e = go (p x) (position p xs) refl refl (e ∙ position-cons
         let n = f (sym r) in
         record { any = rw q n.any; found = rw q n.found; written = λ y. rw q (ap (λ ys. x ∷ ys) (n.written y)) }
 
-pub is_some-position : {X : Type 0} (p : X → Bool) (xs : List X) (o : Option ℕ) → o ≡ position p xs → is_some o ≡ list_any p xs
-is_some-position p xs None e = sym (nowhere p xs e).any
-is_some-position p xs (Some i) e = sym (first_at p xs i e).any
+pub is_some_position : {X : Type 0} (p : X → Bool) (xs : List X) (o : Option ℕ) → o ≡ position p xs → is_some o ≡ list_any p xs
+is_some_position p xs None e = sym (nowhere p xs e).any
+is_some_position p xs (Some i) e = sym (first_at p xs i e).any

@@ -1,12 +1,12 @@
 -- What an illegal tag in a peer's map is, by indices.
-use Rattle.std.proofs.Common.{◌≡◌, ℕ, ◌+◌, ◌<◌, ◌≤◌, Bool, true, false, not, ltb, List, length, get_or, take, Decides, sym, refl, ap, ◌∙◌, ⊎_elim, add-one, arith}
-use Rattle.std.specs.List.{HoldsAt, list_any, range_with_len}
+use Rattle.std.proofs.Common.{◌≡◌, ℕ, ◌<◌, ◌≤◌, Bool, true, false, not, ltb, List, length, get_or, take, Decides, sym, refl, ap, ◌∙◌, ⊎_elim, arith}
+use Rattle.std.specs.List.{HoldsAt, range_with_len}
 use Rattle.std.proofs.lemmas.List.Folds.{Any-from_list_any, list_any_at}
 use Rattle.std.proofs.lemmas.List.FromFn.{length-range_with_len, get_or-range_with_len}
 use Rattle.std.specs.Str.{bytes_eq}
 use Rattle.std.proofs.lemmas.Slice.Eq.{bytes_eq-Decides}
 use Rattle.std.proofs.lemmas.List.{length-take-le, get_or-take, get_or_default}
-use Rattle.std.proofs.lemmas.Bool.{both_ways, not-true, not_from_false, cases_Bool, ltb-true, ltb-false, or_cases, or_parts, or_from}
+use Rattle.std.proofs.lemmas.Bool.{both_ways, not-true, not_from_false, cases_Bool, ltb-true, ltb-false, or_cases, or_parts}
 use Rattle.std.proofs.lemmas.Bool.Decides.{Decides-by_or, not_from_Decides}
 use Rattle.unsettled.specs.declared.peer.PeerDelivery.{PeerDelivery}
 use Rattle.unsettled.specs.Peers.{bytes_of, among, blank, tag_at, illegal_at, illegal_tags, LegalTags}

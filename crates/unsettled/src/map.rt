@@ -65,12 +65,14 @@ impl<'a, M: Copy> UnsettledMap<'a, M> {
         self.front().iter().position(|slot| slot.tag == *tag)
     }
 
+    #[tactic(auto, using(crate::proofs::Firsts::is_some_position))]
     pub fn contains(&self, tag: &DeliveryTag) -> bool
         ensures { result ≡ list_any (has_tag tag.now) (held self.now) }
     {
         self.find(tag).is_some()
     }
 
+    #[tactic(auto, using(crate::proofs::Memory::look_some, crate::proofs::Memory::look_none))]
     pub fn get(&self, tag: &DeliveryTag) -> Option<M>
         ensures { result ≡ look tag.now (held self.now) }
     {
@@ -79,6 +81,7 @@ impl<'a, M: Copy> UnsettledMap<'a, M> {
     }
 
     // A new tag joins the end where there is room, and a present one has its entry replaced.
+    #[tactic(auto, using(crate::proofs::Memory::can_put_some, crate::proofs::Memory::can_put_none, crate::proofs::Memory::put_over, crate::proofs::Memory::put_next))]
     pub fn put(&mut self, tag: DeliveryTag, entry: M) -> Result<(), MapError>
         ensures answer { result ≡ (if can_put (room self.old) tag (held self.old) then Ok tt else Err MapError.Full) }
         ensures holds { held self.new ≡ (if can_put (room self.old) tag (held self.old) then put_in tag entry (held self.old) else held self.old) }
@@ -98,6 +101,7 @@ impl<'a, M: Copy> UnsettledMap<'a, M> {
     }
 
     // Takes a tag out, and answers its entry. The last slot moves into the gap, so no other has to.
+    #[tactic(auto, using(crate::proofs::Memory::look_some, crate::proofs::Memory::look_none, crate::proofs::Memory::swap_last))]
     pub fn swap_remove(&mut self, tag: &DeliveryTag) -> Option<M>
         ensures answer { result ≡ look tag.now (held self.old) }
         ensures holds { held self.new ≡ swap_removed tag.now (held self.old) }
