@@ -1,5 +1,6 @@
 -- Send: what it refuses, and what an accepted one does.
 use Rattle.std.specs.Prelude.{ℕ, ◌+◌, ◌-◌, max, Bool, true, false, cond, not, ◌&&◌, ◌||◌, List, [], ◌∷◌, ◌++◌, length, take, drop, is_some, Some, None, Option, Result, ◌==◌, nat_le, nat_lt}
+use Rattle.std.specs.List.{list_any}
 use Rattle.std.specs.Option.{option_map}
 use Rattle.amqp.specs.declared.error.LinkStateError.TheVariants.{IllegalState}
 use Rattle.amqp.specs.declared.error.SendError.{SendError}
@@ -14,11 +15,11 @@ use Rattle.sink.specs.Cuts.{count_of, frames_of, split_fault}
 use Rattle.sink.specs.Frames.{Frame, Model}
 use Rattle.unsettled.specs.declared.message.Place.{Place}
 use Rattle.unsettled.specs.Messages.{outside}
-use Rattle.unsettled.specs.Tables.{place}
+use Rattle.unsettled.specs.Tables.{has_tag}
 use Rattle.link.specs.declared.delivery.Sendable.{Sendable}
 use Rattle.link.specs.Credit.{or_else, consumed}
 use Rattle.link.specs.Rows.{row, first, gated}
-use Rattle.link.specs.Seats.{place_by, is_free}
+use Rattle.link.specs.Seats.{is_free}
 use Rattle.link.specs.Settings.{settles, exceeds}
 use Rattle.link.specs.States.{is_attached}
 use Rattle.link.specs.Views.{View, Held, Entry}
@@ -113,10 +114,10 @@ abbrev pub table_full : View → Bool
 table_full v = nat_le v.rooms.table (length v.held.table)
 
 abbrev pub tag_there : DeliveryTag → View → Bool
-tag_there t v = is_some (place t v.held.table)
+tag_there t v = list_any (has_tag t) v.held.table
 
 abbrev pub no_seat : View → Bool
-no_seat v = not (is_some (place_by is_free v.seats))
+no_seat v = not (list_any is_free v.seats)
 
 -- what refuses an entry of the next tag: 11, 13, 12
 abbrev pub entry_rows : View → List (Option SendError)

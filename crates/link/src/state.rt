@@ -71,11 +71,11 @@ impl LinkState {
     pub fn is_incomplete(self) -> bool
         ensures { result ≡ is_incomplete self }
     {
-        match self {
+        matches!(
+            self,
             LinkState::IncompleteAttachSent
-            | LinkState::IncompleteAttachReceived
-            | LinkState::IncompleteAttachExchanged => true,
-            _ => false,
-        }
+                | LinkState::IncompleteAttachReceived
+                | LinkState::IncompleteAttachExchanged
+        )
     }
 }
