@@ -37,7 +37,7 @@ credit_clear n h = grind (arith, nat_tests)
 
 -- the rows of an entry are those of an unsettled delivery
 entry_clear : (v : View) (b : Bool) → AllByRecursion (λ o. o ≡ None) (cond b [] (entry_rows v)) → b ≡ false → (table_full v ≡ false) × (tag_there (next_tag v) v ≡ false) × (no_seat v ≡ false)
-entry_clear v true h e = let w : ◌≡◌ {A = ℕ} 0 1 = cc in absurd (omega arith)
+entry_clear v true h e = absurd (cc)
 entry_clear v false h e =
     (row_off (table_full v) fault.TableFull h.0, row_off (tag_there (next_tag v) v) fault.TagInTable h.1.0, row_off (no_seat v) fault.NoSeat h.1.1.0)
 
@@ -73,4 +73,4 @@ own_clear v c m h = go (first (own_rows v c m)) refl
     go None e = refl
     go (Some x) e =
         let f = first_some (own_rows v c m) (sink_row c.sink (share_for v c m) (payload c m) ∷ []) x e in
-        let z : ◌≡◌ {A = ℕ} 0 1 = cc in absurd (omega arith)
+        absurd (cc)
