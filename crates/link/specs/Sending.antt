@@ -1,7 +1,7 @@
 -- Send: what it refuses, and what an accepted one does.
 use Rattle.std.specs.Prelude.{ℕ, ◌+◌, ◌-◌, max, Bool, true, false, cond, not, ◌&&◌, ◌||◌, List, [], ◌∷◌, ◌++◌, length, take, drop, is_some, Some, None, Option, Result, ◌==◌, nat_le, nat_lt}
 use Rattle.std.specs.List.{list_any}
-use Rattle.std.specs.Option.{option_map}
+use Rattle.std.specs.Option.{option_map, unwrap_or}
 use Rattle.amqp.specs.declared.error.LinkStateError.TheVariants.{IllegalState}
 use Rattle.amqp.specs.declared.error.SendError.{SendError}
 use Rattle.amqp.specs.declared.error.SendError.TheVariants as fault
@@ -17,7 +17,7 @@ use Rattle.unsettled.specs.declared.message.Place.{Place}
 use Rattle.unsettled.specs.Messages.{outside}
 use Rattle.unsettled.specs.Tables.{has_tag}
 use Rattle.link.specs.declared.delivery.Sendable.{Sendable}
-use Rattle.link.specs.Credit.{or_else, consumed}
+use Rattle.link.specs.Credit.{consumed}
 use Rattle.link.specs.Rows.{row, first, gated}
 use Rattle.link.specs.Seats.{is_free}
 use Rattle.link.specs.Settings.{settles, exceeds}
@@ -61,7 +61,7 @@ goes_settled v m = settles v.settings.snd_settle_mode m.settled
 abbrev pub transfer_of : View → Sendable → Transfer
 transfer_of v m =
     record {
-      handle = or_else v.output 0;
+      handle = unwrap_or v.output 0;
       delivery_id = None;
       delivery_tag = Some (next_tag v);
       message_format = Some m.message_format;
@@ -89,7 +89,7 @@ share_for v c m = share_of v.settings.max_frame_size (size_for v c m)
 
 -- the frames of a transfer with a payload
 abbrev pub cut : View → Transfer → (share : ℕ) → List ℕ → List Frame
-cut v t share msg = frames_of t (or_else v.input 0) (max 1 share) msg
+cut v t share msg = frames_of t (unwrap_or v.input 0) (max 1 share) msg
 
 abbrev pub sent_frames : View → Carrier → Sendable → List Frame
 sent_frames v c m = cut v (transfer_of v m) (share_for v c m) (payload c m)

@@ -17,7 +17,7 @@ pub struct Sendable {
 
 // How a delivery ended. It is no Option, since a ticket tells one of these or none yet: of None and Some(None) nothing
 // would say which is which.
-#[derive(Clone, Copy)]
+#[derive(Clone, Copy, PartialEq, Eq)]
 pub enum Outcome {
     State(DeliveryState),
     // It was settled, and no state was ever told.

@@ -15,7 +15,7 @@ pub enum Seat {
     Ended(u32, Outcome),
 }
 
-// The seats of a link, in lent memory.
+// The seats of a link, searched in order in lent memory.
 #[derive(Drop)]
 pub struct Seats<'a> {
     seats: &'a mut [Seat],

@@ -15,7 +15,7 @@
 ghost use Rattle.std.specs.Prelude.{◌≡◌};
 ghost use Rattle.link.specs.States.{after_open, after_attach, is_incomplete};
 
-#[derive(Clone, Copy)]
+#[derive(Clone, Copy, PartialEq, Eq)]
 pub enum LinkState {
     Unattached,
     AttachSent,

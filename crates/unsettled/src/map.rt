@@ -5,7 +5,7 @@ ghost use Rattle.std.specs.List.{slice_get, list_any};
 use crate::slot::{MapError, Slot};
 use amqp::tag::DeliveryTag;
 
-// It holds the first `len` slots.
+// It holds the first `len` slots. They are searched in order, in memory that is lent: a link takes no heap.
 #[derive(Drop)]
 pub struct UnsettledMap<'a, M> {
     slots: &'a mut [Slot<M>],

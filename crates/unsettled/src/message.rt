@@ -8,7 +8,7 @@ use amqp::state::DeliveryState;
 // The most bytes that a pool may have.
 const MAX_POOL: usize = 67_108_864;
 
-// Where a message lies in the pool.
+// Where a message lies in the pool. It is no slice, since each call is lent the pool anew.
 #[derive(Clone, Copy)]
 pub struct Place {
     pub start: usize,

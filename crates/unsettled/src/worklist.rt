@@ -1,7 +1,7 @@
 // A list that is worked off from its start, in lent memory.
 ghost use Rattle.std.specs.Prelude.{◌≡◌, ◌+◌, ◌≤◌, [], length, ◌==◌};
 
-// It holds `len` places from `start`.
+// It holds `len` places from `start`, which moves on as the list is worked off; in a table of deliveries nothing does.
 #[derive(Drop)]
 pub struct Worklist<'a, X> {
     slots: &'a mut [X],
