@@ -15,7 +15,7 @@ use Rattle.sink.specs.Cuts.{count_of, frames_of, split_fault}
 use Rattle.sink.specs.Frames.{Frame, Model}
 use Rattle.unsettled.specs.declared.message.Place.{Place}
 use Rattle.unsettled.specs.Messages.{outside}
-use Rattle.unsettled.specs.Tables.{has_tag}
+use Rattle.unsettled.specs.Tables.{look}
 use Rattle.link.specs.declared.delivery.Sendable.{Sendable}
 use Rattle.link.specs.Credit.{consumed}
 use Rattle.link.specs.Rows.{row, first, gated}
@@ -114,7 +114,7 @@ abbrev pub table_full : View → Bool
 table_full v = nat_le v.rooms.table (length v.held.table)
 
 abbrev pub tag_there : DeliveryTag → View → Bool
-tag_there t v = list_any (has_tag t) v.held.table
+tag_there t v = is_some (look t v.held.table)
 
 abbrev pub no_seat : View → Bool
 no_seat v = not (list_any is_free v.seats)

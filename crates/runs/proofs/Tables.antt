@@ -1,11 +1,11 @@
 -- A table's moves by recursion over its slots: what a tag finds, replaces and takes out.
-use Rattle.std.proofs.Common.{◌≡◌, ℕ, suc, Bool, true, false, cond, List, [], ◌∷◌, ◌++◌, length, get_or, take, set, Some, None, Option, refl, ap, ◌∙◌, ap₂, arith}
-use Rattle.std.specs.List.{find, list_any}
+use Rattle.std.proofs.Common.{◌≡◌, ℕ, suc, Bool, true, false, cond, List, [], ◌∷◌, ◌++◌, length, get_or, take, set, is_some, Some, None, Option, refl, ap, ◌∙◌, ap₂, arith}
+use Rattle.std.specs.List.{find}
 use Rattle.std.specs.Option.{option_map, unwrap_or}
 use Rattle.std.proofs.lemmas.List.{get_or_default}
 use Rattle.amqp.specs.declared.tag.DeliveryTag.{DeliveryTag}
 use Rattle.unsettled.specs.Lists.{replaced}
-use Rattle.unsettled.specs.Tables.{same_tag, has_tag, place, put_in, swap_out, swap_removed}
+use Rattle.unsettled.specs.Tables.{same_tag, has_tag, place, entry_of, put_in, swap_out, swap_removed}
 use Rattle.unsettled.proofs.Firsts.{position-cons}
 use Rattle.unsettled.specs.declared.message.UnsettledMessage.{UnsettledMessage}
 use Rattle.link.specs.Views.{Entry}
@@ -35,13 +35,9 @@ abbrev pub without : DeliveryTag → List Entry → List Entry
 without t [] = []
 without t (x ∷ xs) = cond (same_tag x.tag t) (filled xs) (x ∷ without t xs)
 
-any_found : (t : DeliveryTag) (xs : List Entry) (e : Entry) → found t xs ≡ Some e → list_any (has_tag t) xs ≡ true
-any_found t [] e h = absurd (cc)
-any_found t (x ∷ xs) e h = let ih = any_found t xs e in grind arith
-
 -- a present tag's entry is replaced
 pub put_found : (t : DeliveryTag) (m : UnsettledMessage) (xs : List Entry) (e : Entry) → found t xs ≡ Some e → put_in t m xs ≡ exchanged t m xs
-put_found t m xs e h = ap (λ b. cond b (exchanged t m xs) (xs ++ record { tag = t; entry = m } ∷ [])) (any_found t xs e h)
+put_found t m xs e h = ap (λ b. cond b (exchanged t m xs) (xs ++ record { tag = t; entry = m } ∷ [])) (ap (λ o. is_some (entry_of o)) h)
 
 -- past the length the default does not matter
 at_last : (x y : Entry) (xs : List Entry) → get_or (y ∷ xs) (length xs) x ≡ get_or (y ∷ xs) (length xs) y

@@ -1,8 +1,7 @@
 -- The first element that passes a test: where it stands, what it is, and what replaces it.
-use Rattle.std.proofs.Common.{◌≡◌, ℕ, zero, suc, ◌+◌, ◌<◌, Bool, true, false, cond, not, ltb, List, [], ◌∷◌, length, get_or, set, is_some, Some, None, Option, sym, refl, ap, ◌∙◌, arith}
-use Rattle.std.specs.List.{find, list_any, position, position_or_len}
+use Rattle.std.proofs.Common.{◌≡◌, ℕ, zero, suc, ◌+◌, ◌<◌, Bool, true, false, cond, not, ltb, List, [], ◌∷◌, length, get_or, set, Some, None, Option, sym, refl, ap, ◌∙◌, arith}
+use Rattle.std.specs.List.{find, position, position_or_len}
 use Rattle.std.specs.Option.{option_map}
-use Rattle.std.proofs.lemmas.List.Folds.{list_any_at}
 use Rattle.std.proofs.lemmas.List.Quantifiers.{position-Some}
 use Rattle.std.proofs.lemmas.List.Recursion.{found_at}
 use Rattle.std.proofs.lemmas.Bool.Decides.{nat_tests}
@@ -19,13 +18,11 @@ position-cons p x xs = go (p x) (position_or_len p xs) (length xs)
 -- an element that passes, and none that stands before it does
 pub record FirstAt {X : Type 0} (p : X → Bool) (xs : List X) (i : ℕ) : Type 0 where
   pub below : i < length xs
-  pub any : list_any p xs ≡ true
   pub found : (d : X) → find p xs ≡ Some (get_or xs i d)
   pub written : (y : X) → set xs i y ≡ replaced p y xs
 
 -- no element passes
 pub record Nowhere {X : Type 0} (p : X → Bool) (xs : List X) : Type 0 where
-  pub any : list_any p xs ≡ false
   pub found : find p xs ≡ None
   pub written : (y : X) → xs ≡ replaced p y xs
 
@@ -42,13 +39,12 @@ first_at p (x ∷ xs) i e =
     let h = position-Some p (x ∷ xs) i x (sym e) in
     record {
       below = h.0;
-      any = list_any_at p (x ∷ xs) i x h.0 h.1;
       found = λ d. let k = position-Some p (x ∷ xs) i d (sym e) in found_at (find p) p Some None refl (λ _ _. refl) (x ∷ xs) i d k.0 k.2 k.1;
       written = λ y. written_at p y x (x ∷ xs) i h.0 h.1 h.2;
     }
 
 pub nowhere : {X : Type 0} (p : X → Bool) (xs : List X) → None ≡ position p xs → Nowhere p xs
-nowhere p [] e = record { any = refl; found = refl; written = λ y. refl }
+nowhere p [] e = record { found = refl; written = λ y. refl }
 nowhere p (x ∷ xs) e = go (p x) (position p xs) refl refl (e ∙ position-cons p x xs) (nowhere p xs)
   where
     go : (b : Bool) (o : Option ℕ) → p x ≡ b → position p xs ≡ o → None ≡ cond b (Some 0) (option_map suc o) → (None ≡ position p xs → Nowhere p xs) → Nowhere p (x ∷ xs)
@@ -56,8 +52,4 @@ nowhere p (x ∷ xs) e = go (p x) (position p xs) refl refl (e ∙ position-cons
     go false (Some i) q r h f = absurd (cc)
     go false None q r h f =
         let n = f (sym r) in
-        record { any = rw q n.any; found = rw q n.found; written = λ y. rw q (ap (λ ys. x ∷ ys) (n.written y)) }
-
-pub is_some_position : {X : Type 0} (p : X → Bool) (xs : List X) (o : Option ℕ) → o ≡ position p xs → is_some o ≡ list_any p xs
-is_some_position p xs None e = sym (nowhere p xs e).any
-is_some_position p xs (Some i) e = sym (first_at p xs i e).any
+        record { found = rw q n.found; written = λ y. rw q (ap (λ ys. x ∷ ys) (n.written y)) }

@@ -1,5 +1,5 @@
 -- A table that is the front of `len` slots of the memory `s`, and what becomes of it.
-use Rattle.std.proofs.Common.{◌≡◌, ℕ, zero, suc, ◌+◌, ◌-◌, ◌<◌, ◌≤◌, Bool, true, false, cond, ◌||◌, not, ltb, leb, List, [], ◌∷◌, ◌++◌, length, get_or, take, set, Some, None, sym, ap, ◌∙◌, arith}
+use Rattle.std.proofs.Common.{◌≡◌, ℕ, zero, suc, ◌+◌, ◌-◌, ◌<◌, ◌≤◌, Bool, true, false, cond, ◌||◌, not, ltb, leb, List, [], ◌∷◌, ◌++◌, length, get_or, take, set, is_some, Some, None, Option, sym, ap, ◌∙◌, arith}
 use Rattle.std.specs.Option.{option_map, unwrap_or}
 use lib.Seq.{take-set-lt}
 use Rattle.std.proofs.lemmas.List.{take-take, take_more_set, length-take-le, get_or-take, get_or_default}
@@ -20,16 +20,28 @@ look_some t s len i d le e =
 pub look_none : {M : Type 0} (t : DeliveryTag) (xs : List (Slot M)) → None ≡ place t xs → None ≡ look t xs
 look_none t xs e = sym (ap entry_of (nowhere (has_tag t) xs e).found)
 
+there_some : {M : Type 0} (t : DeliveryTag) (xs : List (Slot M)) (i : ℕ) → Some i ≡ place t xs → is_some (look t xs) ≡ true
+there_some t [] i e = absurd (cc)
+there_some t (x ∷ xs) i e = ap (λ o. is_some (entry_of o)) ((first_at (has_tag t) (x ∷ xs) i e).found x)
+
+there_none : {M : Type 0} (t : DeliveryTag) (xs : List (Slot M)) → None ≡ place t xs → is_some (look t xs) ≡ false
+there_none t xs e = ap is_some (sym (look_none t xs e))
+
+-- a tag that is there has a place
+pub there : {M : Type 0} (t : DeliveryTag) (xs : List (Slot M)) (o : Option ℕ) → o ≡ place t xs → is_some o ≡ is_some (look t xs)
+there t xs None e = sym (there_none t xs e)
+there t xs (Some i) e = sym (there_some t xs i e)
+
 -- a present tag can be put
 pub can_put_some : {M : Type 0} (r : ℕ) (t : DeliveryTag) (xs : List (Slot M)) (i : ℕ) → Some i ≡ place t xs → can_put r t xs ≡ true
-can_put_some r t xs i e = ap (λ b. b || ltb (length xs) r) (first_at (has_tag t) xs i e).any
+can_put_some r t xs i e = ap (λ b. b || ltb (length xs) r) (there_some t xs i e)
 
 not_full : (r n : ℕ) (b : Bool) → b ≡ leb r n → ltb n r ≡ not b
 not_full r n b e = grind (arith, nat_tests)
 
 -- a new tag can be put where the memory is not full
 pub can_put_none : {M : Type 0} (r : ℕ) (t : DeliveryTag) (xs : List (Slot M)) (b : Bool) → None ≡ place t xs → b ≡ leb r (length xs) → can_put r t xs ≡ not b
-can_put_none r t xs b e f = ap (λ c. c || ltb (length xs) r) (nowhere (has_tag t) xs e).any ∙ not_full r (length xs) b f
+can_put_none r t xs b e f = ap (λ c. c || ltb (length xs) r) (there_none t xs e) ∙ not_full r (length xs) b f
 
 -- a present tag's slot is written over
 pub put_over : {M : Type 0} (t : DeliveryTag) (m : M) (s : List (Slot M)) (len i : ℕ) → len ≤ length s → Some i ≡ place t (take len s) → take len (set s i (record { tag = t; entry = m })) ≡ put_in t m (take len s)
@@ -39,7 +51,7 @@ put_over t m s len i le e =
     let k = f.below in
     take-set-lt len s i (record { tag = t; entry = m }) (omega arith)
     ∙ f.written (record { tag = t; entry = m })
-    ∙ sym (ap (λ b. cond b (replaced (has_tag t) (record { tag = t; entry = m }) (take len s)) (take len s ++ record { tag = t; entry = m } ∷ [])) f.any)
+    ∙ sym (ap (λ b. cond b (replaced (has_tag t) (record { tag = t; entry = m }) (take len s)) (take len s ++ record { tag = t; entry = m } ∷ [])) (there_some t (take len s) i e))
 
 -- a new tag's slot is the next
 pub put_next : {M : Type 0} (t : DeliveryTag) (m : M) (s : List (Slot M)) (len : ℕ) → len ≤ length s → false ≡ leb (length s) (length (take len s)) → None ≡ place t (take len s) → take (len + 1) (set s len (record { tag = t; entry = m })) ≡ put_in t m (take len s)
@@ -47,7 +59,7 @@ put_next t m s len le f e =
     let l = length-take-le len s le in
     let lt : len < length s = grind (arith, nat_tests) in
     take_more_set s len (record { tag = t; entry = m }) lt
-    ∙ sym (ap (λ b. cond b (replaced (has_tag t) (record { tag = t; entry = m }) (take len s)) (take len s ++ record { tag = t; entry = m } ∷ [])) (nowhere (has_tag t) (take len s) e).any)
+    ∙ sym (ap (λ b. cond b (replaced (has_tag t) (record { tag = t; entry = m }) (take len s)) (take len s ++ record { tag = t; entry = m } ∷ [])) (there_none t (take len s) e))
 
 swap_front : {X : Type 0} (s : List X) (n i : ℕ) (d : X) → i < n → n ≤ length s → take (n - 1) (set s i (get_or s (n - 1) d)) ≡ swap_out i (take n s)
 swap_front [] n i d lt le = absurd (omega arith)

@@ -1,6 +1,6 @@
 -- A table of unsettled deliveries as a list of slots.
-use Rattle.std.specs.Prelude.{ℕ, Bool, cond, ◌&&◌, ◌||◌, List, [], ◌∷◌, ◌++◌, length, take, Option, ◌==◌, nat_le, nat_lt, slice_index_or, slice_set}
-use Rattle.std.specs.List.{find, list_any, position}
+use Rattle.std.specs.Prelude.{ℕ, Bool, cond, ◌&&◌, ◌||◌, List, [], ◌∷◌, ◌++◌, length, take, is_some, Option, ◌==◌, nat_le, nat_lt, slice_index_or, slice_set}
+use Rattle.std.specs.List.{find, position}
 use Rattle.std.specs.Option.{option_map, unwrap_or}
 use Rattle.std.specs.Str.{bytes_eq}
 use Rattle.amqp.specs.declared.tag.DeliveryTag.{DeliveryTag}
@@ -42,12 +42,12 @@ look t xs = entry_of (find (has_tag t) xs)
 
 -- a present tag can always be put, a new one where there is room
 abbrev pub can_put : {M : Type 0} → ℕ → DeliveryTag → List (Slot M) → Bool
-can_put n t xs = list_any (has_tag t) xs || nat_lt (length xs) n
+can_put n t xs = is_some (look t xs) || nat_lt (length xs) n
 
 -- a new tag joins the end, a present one has its entry replaced
 abbrev pub put_in : {M : Type 0} → DeliveryTag → M → List (Slot M) → List (Slot M)
 put_in t m xs =
-    cond (list_any (has_tag t) xs) (replaced (has_tag t) (record { tag = t; entry = m }) xs) (xs ++ record { tag = t; entry = m } ∷ [])
+    cond (is_some (look t xs)) (replaced (has_tag t) (record { tag = t; entry = m }) xs) (xs ++ record { tag = t; entry = m } ∷ [])
 
 -- the last element takes the place of the one at i
 abbrev pub swap_out : {X : Type 0} → ℕ → List X → List X

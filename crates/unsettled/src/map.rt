@@ -1,6 +1,6 @@
 // A table of unsettled deliveries by their tags, in lent memory (Part 2, 2.6.13).
-ghost use Rattle.std.specs.Prelude.{◌≡◌, ◌<◌, ◌≤◌, [], length, IfSome, if◌then◌else◌, Ok, Err};
-ghost use Rattle.std.specs.List.{slice_get, list_any};
+ghost use Rattle.std.specs.Prelude.{◌≡◌, ◌<◌, ◌≤◌, [], length, is_some, IfSome, if◌then◌else◌, Ok, Err};
+ghost use Rattle.std.specs.List.{slice_get};
 
 use crate::slot::{MapError, Slot};
 use amqp::tag::DeliveryTag;
@@ -14,7 +14,7 @@ pub struct UnsettledMap<'a, M> {
 }
 
 impl<'a, M: Copy> UnsettledMap<'a, M> {
-    ghost use Rattle.unsettled.specs.Tables.{held, room, full, has_tag, place, look, can_put, put_in, swap_removed};
+    ghost use Rattle.unsettled.specs.Tables.{held, room, full, place, look, can_put, put_in, swap_removed};
 
     // An empty table in this memory.
     pub fn new(slots: &'a mut [Slot<M>]) -> UnsettledMap<'a, M>
@@ -65,9 +65,9 @@ impl<'a, M: Copy> UnsettledMap<'a, M> {
         self.front().iter().position(|slot| slot.tag == *tag)
     }
 
-    #[tactic(auto, using(crate::proofs::Firsts::is_some_position))]
+    #[tactic(auto, using(crate::proofs::Memory::there))]
     pub fn contains(&self, tag: &DeliveryTag) -> bool
-        ensures { result ≡ list_any (has_tag tag.now) (held self.now) }
+        ensures { result ≡ is_some (look tag.now (held self.now)) }
     {
         self.find(tag).is_some()
     }
