@@ -8,7 +8,7 @@ use amqp::state::DeliveryState;
 // The most bytes that a pool may have.
 const MAX_POOL: usize = 67_108_864;
 
-// Where a message lies in the pool.
+// Where a message lies in the pool. It is no slice, since each call is lent the pool anew.
 #[derive(Clone, Copy)]
 pub struct Place {
     pub start: usize,
@@ -39,10 +39,5 @@ impl Place {
 pub fn any_outside(slots: &[Slot<UnsettledMessage>], pool: &[u8]) -> bool
     ensures { result ≡ any_outside slots.now (length pool.now) }
 {
-    for slot in slots {
-        if slot.entry.place.is_outside(pool) {
-            return true;
-        }
-    }
-    false
+    slots.iter().any(|slot| slot.entry.place.is_outside(pool))
 }

@@ -7,7 +7,7 @@ pub struct Slot<M> {
     pub entry: M,
 }
 
-#[derive(Clone, Copy)]
+#[derive(Clone, Copy, PartialEq, Eq)]
 pub enum MapError {
     // A new tag finds no place.
     Full,
