@@ -9,7 +9,7 @@ use amqp::state::DeliveryState;
 const MAX_POOL: usize = 67_108_864;
 
 // Where a message lies in the pool. It is no slice, since each call is lent the pool anew.
-#[derive(Clone, Copy)]
+#[derive(Clone, Copy, Default)]
 pub struct Place {
     pub start: usize,
     pub len: usize,
@@ -17,7 +17,7 @@ pub struct Place {
 
 // What is kept of a delivery until it is settled: its message, the state last recorded, and the
 // number of its ticket.
-#[derive(Clone, Copy)]
+#[derive(Clone, Copy, Default)]
 pub struct UnsettledMessage {
     pub place: Place,
     pub state: Option<DeliveryState>,

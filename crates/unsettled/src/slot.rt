@@ -1,7 +1,7 @@
 // An entry of a table of unsettled deliveries.
 use amqp::tag::DeliveryTag;
 
-#[derive(Clone, Copy)]
+#[derive(Clone, Copy, Default)]
 pub struct Slot<M> {
     pub tag: DeliveryTag,
     pub entry: M,
