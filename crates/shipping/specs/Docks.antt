@@ -24,7 +24,6 @@ use Rattle.sender.specs.declared.ticket.Settlement.{Settlement}
 use Rattle.sender.specs.Sends.{answered}
 use Rattle.sender.specs.Views.{view}
 use Rattle.shipping.specs.declared.dock.Dock.{Dock}
-use Rattle.shipping.specs.declared.report.OutOfMemory.{OutOfMemory}
 use Rattle.shipping.specs.declared.report.ShipError.{ShipError}
 use Rattle.shipping.specs.declared.report.ShipError.TheVariants.{Refused, NoMemory, Link}
 use Rattle.shipping.specs.declared.report.Shipment.{Shipment}
@@ -89,12 +88,6 @@ SendingAgain v bytes msg s r w t = (u : View) × Alike v u × Sending u bytes ms
 pub record Answered (a : Intake) (msg : List ℕ) (v w : View) : Type 0 where
   pub known : (t : DeliveryTag) → a.tag ≡ Some t → (s : DeliveryState) × Judged a.joined msg s × (w ≡ step v (Disposition t true (Some s)))
   pub unknown : a.tag ≡ None → w ≡ v
-
--- the frames that were read, and what the ticket told
-abbrev pub shipment_of : (ticket : ℕ) → Result ℕ OutOfMemory → Result Progress TicketError → Result Shipment ShipError
-shipment_of ticket (Ok frames) (Ok progress) = Ok (record { frames = frames; ticket = ticket; progress = progress })
-shipment_of ticket (Ok frames) (Err e) = Err Link
-shipment_of ticket (Err e) told = Err NoMemory
 
 -- the archive has read the queue and answered, and then a ticket was collected
 pub record Settled (v : View) (s : Model) (a : Intake) (msg : List ℕ) (number : ℕ) (told : Result Progress TicketError) (w : View) (t : Model) : Type 0 where

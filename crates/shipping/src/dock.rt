@@ -5,7 +5,7 @@ use sender::sender_link::SenderLink;
 use std::alloc::Global;
 
 pub mod opening;
-mod sending;
+pub mod sending;
 pub mod shipping;
 
 #[derive(Drop)]

@@ -88,18 +88,15 @@ impl Told {
     pub fn is_accepted(&self) -> bool
         ensures { result ≡ is_accepted self.now.0 }
     {
-        match self.0 {
-            Progress::Ended(Outcome::State(DeliveryState::Accepted)) => true,
-            _ => false,
-        }
+        matches!(
+            self.0,
+            Progress::Ended(Outcome::State(DeliveryState::Accepted))
+        )
     }
 
     pub fn is_pending(&self) -> bool
         ensures { result ≡ is_pending self.now.0 }
     {
-        match self.0 {
-            Progress::Pending => true,
-            Progress::Ended(_) => false,
-        }
+        matches!(self.0, Progress::Pending)
     }
 }

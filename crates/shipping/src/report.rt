@@ -1,10 +1,12 @@
 // What became of a file.
 ghost use Rattle.std.specs.Prelude.{◌≡◌, Some};
-ghost use Rattle.shipping.specs.declared.report.ShipError.TheVariants.{NoMemory};
+ghost use Rattle.shipping.specs.declared.report.ShipError.TheVariants.{Refused, NoMemory, Link};
+ghost use Rattle.shipping.specs.Sections.{unshipped};
 ghost use Rattle.shipping.specs.Texts.{shipment_text, error_text, totals_text, tallied};
 
+use crate::message::MessageError;
 use crate::outcome::Told;
-use amqp::error::{MemoryError, SendError};
+use amqp::error::{MemoryError, SendError, TicketError};
 use link::delivery::Progress;
 use std::alloc::AllocError;
 use std::fmt;
@@ -50,6 +52,34 @@ impl From<OutOfMemory> for ShipError {
     }
 }
 
+impl From<MessageError> for ShipError {
+    ghost from_gives = { λ e r. r ≡ unshipped e };
+
+    fn from(e: MessageError) -> ShipError {
+        match e {
+            MessageError::NoMemory => ShipError::NoMemory,
+            // No pool is so long either.
+            MessageError::TooLong => ShipError::Refused(SendError::OutsidePool),
+        }
+    }
+}
+
+impl From<SendError> for ShipError {
+    ghost from_gives = { λ e r. r ≡ Refused e };
+
+    fn from(e: SendError) -> ShipError {
+        ShipError::Refused(e)
+    }
+}
+
+impl From<TicketError> for ShipError {
+    ghost from_gives = { λ _ r. r ≡ Link };
+
+    fn from(_e: TicketError) -> ShipError {
+        ShipError::Link
+    }
+}
+
 impl fmt::Display for Shipment {
     ghost output = { λ s. Some (shipment_text s) };
 
@@ -77,7 +107,7 @@ impl fmt::Display for ShipError {
 }
 
 // What all shipments came to.
-#[derive(Clone, Copy)]
+#[derive(Clone, Copy, Default)]
 pub struct Totals {
     pub files: u64,
     pub frames: u64,
@@ -87,18 +117,6 @@ pub struct Totals {
 }
 
 impl Totals {
-    pub fn new() -> Totals
-        ensures { result ≡ record { files = 0; frames = 0; bytes = 0; accepted = 0; pending = 0 } }
-    {
-        Totals {
-            files: 0,
-            frames: 0,
-            bytes: 0,
-            accepted: 0,
-            pending: 0,
-        }
-    }
-
     // One more file, of so many bytes.
     pub fn add(&mut self, bytes: usize, shipment: &Shipment)
         ensures { self.new ≡ tallied self.old bytes shipment.now }

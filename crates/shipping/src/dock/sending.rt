@@ -1,10 +1,8 @@
 // Sending a message, however little the queue holds.
-ghost use Rattle.std.specs.Prelude.{◌≡◌, length, Decides, OnOk};
-ghost use Rattle.amqp.specs.declared.error.SendError.TheVariants.{NoCredit, SinkFull};
+ghost use Rattle.std.specs.Prelude.{◌≡◌, length, OnOk};
 ghost use Rattle.link.specs.Calls.{Flow, step};
 ghost use Rattle.link.specs.Sending.{carrier};
 ghost use Rattle.sender.specs.Sends.{Sends};
-ghost use Rattle.shipping.specs.declared.report.ShipError.TheVariants.{Refused};
 ghost use Rattle.shipping.specs.Archives.{intake_of, granting};
 ghost use Rattle.shipping.specs.Docks.{link_of, queue_of, roomier, plain, Sending, SendingAgain};
 
@@ -19,26 +17,16 @@ use sender::ticket::Settlement;
 use sink::sink::Sink;
 use unsettled::message::Place;
 
-// The message did not fit into the sink.
-fn is_full(e: SendError) -> bool
-    ensures { Decides result (e ≡ SinkFull) }
+// A message that is the whole pool.
+pub fn plain(len: usize) -> Sendable
+    ensures { result ≡ plain len }
 {
-    match e {
-        SendError::SinkFull => true,
-        _ => false,
-    }
-}
-
-// The archive has granted no credit for the message.
-fn wants_credit(e: ShipError) -> bool
-    ensures { Decides result (e ≡ Refused NoCredit) }
-{
-    match e {
-        ShipError::Refused(refusal) => match refusal {
-            SendError::NoCredit => true,
-            _ => false,
-        },
-        _ => false,
+    Sendable {
+        place: Place { start: 0, len },
+        message_format: 0,
+        settled: None,
+        state: None,
+        batchable: false,
     }
 }
 
@@ -72,17 +60,8 @@ impl<'a> Dock<'a> {
     fn try_send<E: Encoder>(&mut self, encoder: &E, message: &[u8]) -> Result<Settlement, SendError>
         ensures { Sends (link_of self.old) (carrier (E.bytes encoder.now) message.now (queue_of self.old)) (plain (length message.now)) result (link_of self.new) (queue_of self.new) }
     {
-        let sendable = Sendable {
-            place: Place {
-                start: 0,
-                len: message.len(),
-            },
-            message_format: 0,
-            settled: None,
-            state: None,
-            batchable: false,
-        };
-        self.link.send(&mut self.queue, encoder, message, &sendable)
+        self.link
+            .send(&mut self.queue, encoder, message, &plain(message.len()))
     }
 
     // Tries until the queue has room for all frames of the message.
@@ -96,12 +75,10 @@ impl<'a> Dock<'a> {
         loop {
             match self.try_send(encoder, message) {
                 Ok(settlement) => return Ok(settlement),
-                Err(e) => {
-                    if !is_full(e) {
-                        return Err(ShipError::Refused(e));
-                    }
-                    self.make_room()?;
-                }
+                Err(e) => match e {
+                    SendError::SinkFull => self.make_room()?,
+                    _ => return Err(e.into()),
+                },
             }
         }
     }
@@ -115,14 +92,11 @@ impl<'a> Dock<'a> {
         ensures { SendingAgain (link_of self.old) (E.bytes encoder.now) message.now (queue_of self.old) result (link_of self.new) (queue_of self.new) }
     {
         match self.send_in_room(encoder, message) {
-            Ok(settlement) => Ok(settlement),
-            Err(e) => {
-                if !wants_credit(e) {
-                    return Err(e);
-                }
+            Err(ShipError::Refused(SendError::NoCredit)) => {
                 self.grant();
                 self.send_in_room(encoder, message)
             }
+            sent => sent,
         }
     }
 }

@@ -1,38 +1,18 @@
 // Shipping a file: its message is sent, read and judged at the other end, and the ticket collected.
 ghost use Rattle.std.specs.Prelude.{◌≡◌, length, IfOk, OnOk};
 ghost use Rattle.shipping.specs.Archives.{intake_of, took_all};
-ghost use Rattle.shipping.specs.Docks.{link_of, queue_of, Answered, shipment_of, Settling, AtRest, Shipping};
+ghost use Rattle.shipping.specs.Docks.{link_of, queue_of, Answered, Settling, AtRest, Shipping};
 ghost use Rattle.shipping.specs.Sections.{data_section};
 ghost use Rattle.shipping.specs.Unloading.{emptied};
 
 use super::Dock;
 use crate::archive::judge;
-use crate::message::{MessageError, data_section};
+use crate::message::data_section;
 use crate::report::{OutOfMemory, ShipError, Shipment};
 use crate::unload::unload;
-use amqp::error::{SendError, TicketError};
 use codec::encoder::Encoder;
-use link::delivery::Progress;
 use sender::ticket::{Settlement, Ticket};
 use sink::sink::Sink;
-
-fn shipment(
-    ticket: u32,
-    taken: Result<usize, OutOfMemory>,
-    told: Result<Progress, TicketError>,
-) -> Result<Shipment, ShipError>
-    ensures { result ≡ shipment_of ticket taken told }
-{
-    match (taken, told) {
-        (Ok(frames), Ok(progress)) => Ok(Shipment {
-            frames,
-            ticket,
-            progress,
-        }),
-        (Err(_), _) => Err(ShipError::NoMemory),
-        (Ok(_), Err(_)) => Err(ShipError::Link),
-    }
-}
 
 impl<'a> Dock<'a> {
     // The archive reads what waits, and answers for the message that it makes: how many frames there were.
@@ -56,7 +36,11 @@ impl<'a> Dock<'a> {
         let number = ticket.number();
         let taken = self.take_in(message);
         let told = self.link.collect(ticket);
-        shipment(number, taken, told)
+        Ok(Shipment {
+            frames: taken?,
+            ticket: number,
+            progress: told?,
+        })
     }
 
     fn ship_message<E: Encoder>(
@@ -66,12 +50,9 @@ impl<'a> Dock<'a> {
     ) -> Result<Shipment, ShipError>
         ensures { AtRest (link_of self.old) (queue_of self.old) → Shipping (link_of self.old) (E.bytes encoder.now) message.now result (link_of self.new) (queue_of self.new) }
     {
-        match self.send(encoder, message) {
-            Ok(settlement) => match settlement {
-                Settlement::Unsettled(ticket) => self.settle(ticket, message),
-                Settlement::Settled(_) => Err(ShipError::Link),
-            },
-            Err(e) => Err(e),
+        match self.send(encoder, message)? {
+            Settlement::Unsettled(ticket) => self.settle(ticket, message),
+            Settlement::Settled(_) => Err(ShipError::Link),
         }
     }
 
@@ -79,11 +60,7 @@ impl<'a> Dock<'a> {
     pub fn ship<E: Encoder>(&mut self, encoder: &E, file: &[u8]) -> Result<Shipment, ShipError>
         ensures { AtRest (link_of self.old) (queue_of self.old) → Shipping (link_of self.old) (E.bytes encoder.now) (data_section file.now) result (link_of self.new) (queue_of self.new) }
     {
-        match data_section(self.heap, file) {
-            Ok(message) => self.ship_message(encoder, message.as_slice()),
-            Err(MessageError::NoMemory) => Err(ShipError::NoMemory),
-            // No pool is so long either.
-            Err(MessageError::TooLong) => Err(ShipError::Refused(SendError::OutsidePool)),
-        }
+        let message = data_section(self.heap, file)?;
+        self.ship_message(encoder, message.as_slice())
     }
 }
