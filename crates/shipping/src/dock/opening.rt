@@ -89,7 +89,7 @@ impl LinkMemory {
 }
 
 // A queue of so many places, each as wide as asked.
-pub(super) fn empty_queue(heap: Global, places: usize, widest: usize) -> Result<Queue, OutOfMemory>
+pub fn empty_queue(heap: Global, places: usize, widest: usize) -> Result<Queue, OutOfMemory>
     ensures { IfOk result (λ q. model_of q ≡ empty places widest) }
 {
     let size = places.checked_mul(widest).ok_or(OutOfMemory)?;
