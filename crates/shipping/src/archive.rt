@@ -1,6 +1,6 @@
 // The archive at the link's other end: it joins the payloads that come, and judges what they make.
 ghost use Rattle.std.specs.Prelude.{◌≡◌, OnOk};
-ghost use Rattle.shipping.specs.Archives.{intake_of, untouched, tag_in, took, granting, Judged};
+ghost use Rattle.shipping.specs.Archives.{Intake, untouched, tag_in, took, granting, Judged};
 
 use amqp::condition::AmqpError;
 use amqp::header::{FrameKind, Header};
@@ -8,14 +8,21 @@ use amqp::state::DeliveryState;
 use amqp::tag::DeliveryTag;
 use link::flow::LinkFlow;
 use std::alloc::{AllocError, Global};
+use std::marker::Model;
 
 #[derive(Drop)]
 pub struct Archive {
     // How many deliveries have begun.
-    pub(crate) deliveries: u32,
+    deliveries: u32,
     // The tag of the last of them, and what has come of it.
-    pub(crate) tag: Option<DeliveryTag>,
-    pub(crate) joined: Vec<u8>,
+    tag: Option<DeliveryTag>,
+    joined: Vec<u8>,
+}
+
+impl Model for Archive {
+    ghost Value = { Intake };
+
+    ghost view = { λ a. record { deliveries = a.deliveries; tag = a.tag; joined = a.joined.items } };
 }
 
 fn tag_of(header: &Header) -> Option<DeliveryTag>
@@ -40,7 +47,7 @@ pub fn judge(joined: &[u8], message: &[u8]) -> DeliveryState
 
 impl Archive {
     pub fn new(heap: Global) -> Archive
-        ensures { intake_of result ≡ untouched }
+        ensures { result ≡ untouched }
     {
         Archive {
             deliveries: 0,
@@ -56,7 +63,7 @@ impl Archive {
         header: &Header,
         payload: &[u8],
     ) -> Result<(), AllocError>
-        ensures { OnOk result (intake_of self.new ≡ took kind header.now payload.now (intake_of self.old)) }
+        ensures { OnOk result (self.new ≡ took kind header.now payload.now self.old) }
     {
         match kind {
             FrameKind::First => {
@@ -70,9 +77,23 @@ impl Archive {
         }
     }
 
+    // The tag of the last delivery.
+    pub fn tag(&self) -> Option<DeliveryTag>
+        ensures { result ≡ self.now.tag }
+    {
+        self.tag
+    }
+
+    // What has come of it.
+    pub fn joined(&self) -> &[u8]
+        ensures { result.now ≡ self.now.joined }
+    {
+        self.joined.as_slice()
+    }
+
     // A flow that grants this credit from what has come so far.
     pub fn grant(&self, credit: u32) -> LinkFlow
-        ensures { result ≡ granting credit (intake_of self.now) }
+        ensures { result ≡ granting credit self.now }
     {
         LinkFlow {
             handle: None,

@@ -3,7 +3,7 @@ ghost use Rattle.std.specs.Prelude.{◌≡◌, length, OnOk};
 ghost use Rattle.link.specs.Calls.{Flow, step};
 ghost use Rattle.link.specs.Sending.{carrier};
 ghost use Rattle.sender.specs.Sends.{Sends};
-ghost use Rattle.shipping.specs.Archives.{intake_of, granting};
+ghost use Rattle.shipping.specs.Archives.{granting};
 ghost use Rattle.shipping.specs.Docks.{link_of, queue_of, roomier, plain, Sending, SendingAgain};
 
 use super::Dock;
@@ -33,7 +33,7 @@ pub fn plain(len: usize) -> Sendable
 impl<'a> Dock<'a> {
     // The archive grants its credit anew, from what it has seen.
     pub(super) fn grant(&mut self)
-        ensures link { link_of self.new ≡ step (link_of self.old) (Flow (granting self.old.credit (intake_of self.old.archive))) }
+        ensures link { link_of self.new ≡ step (link_of self.old) (Flow (granting self.old.credit self.old.archive)) }
         ensures queue { queue_of self.new ≡ queue_of self.old }
     {
         let flow = self.archive.grant(self.credit);

@@ -1,6 +1,6 @@
 // Shipping a file: its message is sent, read and judged at the other end, and the ticket collected.
 ghost use Rattle.std.specs.Prelude.{◌≡◌, length, IfOk, OnOk};
-ghost use Rattle.shipping.specs.Archives.{intake_of, took_all};
+ghost use Rattle.shipping.specs.Archives.{took_all};
 ghost use Rattle.shipping.specs.Docks.{link_of, queue_of, Answered, Settling, AtRest, Shipping};
 ghost use Rattle.shipping.specs.Sections.{data_section};
 ghost use Rattle.shipping.specs.Unloading.{emptied};
@@ -18,12 +18,12 @@ impl<'a> Dock<'a> {
     // The archive reads what waits, and answers for the message that it makes: how many frames there were.
     fn take_in(&mut self, message: &[u8]) -> Result<usize, OutOfMemory>
         ensures queue { IfOk result (λ n. (queue_of self.new ≡ emptied (queue_of self.old)) × (n ≡ length (queue_of self.old).waiting)) }
-        ensures link { OnOk result (Answered (took_all (queue_of self.old).waiting (intake_of self.old.archive)) message.now (link_of self.old) (link_of self.new)) }
+        ensures link { OnOk result (Answered (took_all (queue_of self.old).waiting self.old.archive) message.now (link_of self.old) (link_of self.new)) }
     {
         let before = self.queue.vacancy();
         unload(&mut self.queue, &mut self.out, &mut self.archive)?;
-        if let Some(tag) = self.archive.tag {
-            let state = judge(self.archive.joined.as_slice(), message);
+        if let Some(tag) = self.archive.tag() {
+            let state = judge(self.archive.joined(), message);
             let _ = self.link.disposition(&tag, true, Some(state));
         }
         Ok(self.queue.vacancy().saturating_sub(before))
@@ -31,7 +31,7 @@ impl<'a> Dock<'a> {
 
     // The ticket is collected on every way out.
     fn settle(&mut self, ticket: Ticket, message: &[u8]) -> Result<Shipment, ShipError>
-        ensures { Settling (link_of self.old) (queue_of self.old) (intake_of self.old.archive) message.now ticket.number result (link_of self.new) (queue_of self.new) }
+        ensures { Settling (link_of self.old) (queue_of self.old) self.old.archive message.now ticket.number result (link_of self.new) (queue_of self.new) }
     {
         let number = ticket.number();
         let taken = self.take_in(message);
