@@ -5,7 +5,6 @@ use Rattle.shipping.specs.declared.options.Key.{Key}
 use Rattle.shipping.specs.declared.options.Key.TheVariants.{Frame, Credit}
 use Rattle.shipping.specs.declared.options.Options.{Options}
 use Rattle.shipping.specs.declared.options.Parcel.{Parcel}
-use Rattle.shipping.specs.declared.options.Reading.{Reading}
 use Rattle.shipping.specs.declared.options.UnknownKey.{UnknownKey}
 use Rattle.shipping.specs.declared.options.UsageError.{UsageError}
 use Rattle.shipping.specs.declared.options.UsageError.TheVariants.{NoFiles, UnknownOption, Twice, NoNumber, BadNumber, NoShelf, UnknownShelf, NoMemory}
@@ -50,9 +49,6 @@ pub record SoFar : Type 0 where
   pub credit : Option ℕ
   pub awaits : Option Key
   pub parcels : List Wanted
-
-abbrev pub so_far : Reading → SoFar
-so_far r = record { frame = r.frame; credit = r.credit; awaits = r.awaits; parcels = map wanted (vec_items r.parcels) }
 
 abbrev pub unread : SoFar
 unread = record { frame = None; credit = None; awaits = None; parcels = [] }

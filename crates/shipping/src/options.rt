@@ -1,12 +1,13 @@
 // The words of the command line.
 ghost use Rattle.std.specs.Prelude.{◌≡◌, ◌⊎◌, [], map, is_some, Some, None, string_bytes, MatchResult, ◌≢◌};
 ghost use Rattle.shipping.specs.declared.options.UsageError.TheVariants.{NoMemory};
-ghost use Rattle.shipping.specs.Words.{Wanted, wanted, parcel_text, key_text, ReadsKey, usage_text, SoFar, so_far, unread, number_of, numbered, awaiting, NamesFile, Takes, TakesAll, Stops, Meant};
+ghost use Rattle.shipping.specs.Words.{Wanted, wanted, parcel_text, key_text, ReadsKey, usage_text, SoFar, unread, number_of, numbered, awaiting, NamesFile, Takes, TakesAll, Stops, Meant};
 
 use crate::number::read_u32;
 use crate::shelf::Shelf;
 use std::alloc::{AllocError, AllocFailed, Global};
 use std::fmt;
+use std::marker::Model;
 use std::str::FromStr;
 
 // What a frame and the credit are where nothing is said.
@@ -113,6 +114,12 @@ struct Reading<'a> {
     parcels: Vec<Parcel<'a>>,
 }
 
+impl<'a> Model for Reading<'a> {
+    ghost Value = { SoFar };
+
+    ghost view = { λ r. record { frame = r.frame; credit = r.credit; awaits = r.awaits; parcels = map wanted r.parcels.items } };
+}
+
 fn read_parcel(word: &str) -> Result<Parcel<'_>, UsageError<'_>>
     ensures { MatchResult result (λ p. word.now ≡ parcel_text (wanted p)) (λ e. ((p : Wanted) → word.now ≢ parcel_text p)) }
 {
@@ -123,7 +130,7 @@ fn read_parcel(word: &str) -> Result<Parcel<'_>, UsageError<'_>>
 
 impl<'a> Reading<'a> {
     fn is_given(&self, key: Key) -> bool
-        ensures { result ≡ is_some (number_of key (so_far self.now)) }
+        ensures { result ≡ is_some (number_of key self.now) }
     {
         match key {
             Key::Frame => self.frame.is_some(),
@@ -132,7 +139,7 @@ impl<'a> Reading<'a> {
     }
 
     fn set(&mut self, key: Key, n: u32)
-        ensures { so_far self.new ≡ numbered key n (so_far self.old) }
+        ensures { self.new ≡ numbered key n self.old }
     {
         match key {
             Key::Frame => self.frame = Some(n),
@@ -142,7 +149,7 @@ impl<'a> Reading<'a> {
     }
 
     fn read_number(&mut self, key: Key, word: &'a str) -> Result<(), UsageError<'a>>
-        ensures { MatchResult result (λ _. Takes (Some key) word.now (so_far self.old) (so_far self.new)) (λ e. ((t : SoFar) → Takes (Some key) word.now (so_far self.old) t → ⊥)) }
+        ensures { MatchResult result (λ _. Takes (Some key) word.now self.old self.new) (λ e. ((t : SoFar) → Takes (Some key) word.now self.old t → ⊥)) }
     {
         let n = read_u32(word).ok_or(UsageError::BadNumber(key, word))?;
         self.set(key, n);
@@ -150,7 +157,7 @@ impl<'a> Reading<'a> {
     }
 
     fn read_option(&mut self, key: Key) -> Result<(), UsageError<'a>>
-        ensures { MatchResult result (λ _. (number_of key (so_far self.old) ≡ None) × (so_far self.new ≡ awaiting key (so_far self.old))) (λ _. (number_of key (so_far self.old) ≢ None)) }
+        ensures { MatchResult result (λ _. (number_of key self.old ≡ None) × (self.new ≡ awaiting key self.old)) (λ _. (number_of key self.old ≢ None)) }
     {
         if self.is_given(key) {
             return Err(UsageError::Twice(key));
@@ -160,7 +167,7 @@ impl<'a> Reading<'a> {
     }
 
     fn read_file(&mut self, word: &'a str) -> Result<(), UsageError<'a>>
-        ensures { MatchResult result (λ _. NamesFile word.now (so_far self.old) (so_far self.new)) (λ e. (e ≡ NoMemory) ⊎ ((t : SoFar) → NamesFile word.now (so_far self.old) t → ⊥)) }
+        ensures { MatchResult result (λ _. NamesFile word.now self.old self.new) (λ e. (e ≡ NoMemory) ⊎ ((t : SoFar) → NamesFile word.now self.old t → ⊥)) }
     {
         if word.starts_with('-') {
             return Err(UsageError::UnknownOption(word));
@@ -170,7 +177,7 @@ impl<'a> Reading<'a> {
     }
 
     fn read(&mut self, word: &'a str) -> Result<(), UsageError<'a>>
-        ensures { MatchResult result (λ _. Takes self.old.awaits word.now (so_far self.old) (so_far self.new)) (λ e. (e ≡ NoMemory) ⊎ ((t : SoFar) → Takes self.old.awaits word.now (so_far self.old) t → ⊥)) }
+        ensures { MatchResult result (λ _. Takes self.old.awaits word.now self.old self.new) (λ e. (e ≡ NoMemory) ⊎ ((t : SoFar) → Takes self.old.awaits word.now self.old t → ⊥)) }
     {
         if let Some(key) = self.awaits {
             return self.read_number(key, word);
@@ -182,7 +189,7 @@ impl<'a> Reading<'a> {
     }
 
     fn finish(self) -> Result<Options<'a>, UsageError<'a>>
-        ensures { MatchResult result (λ o. Meant (so_far self.entry) o) (λ _. ((so_far self.entry).awaits ≡ None → (so_far self.entry).parcels ≡ [])) }
+        ensures { MatchResult result (λ o. Meant self.entry o) (λ _. (self.entry.awaits ≡ None → self.entry.parcels ≡ [])) }
     {
         if let Some(key) = self.awaits {
             return Err(UsageError::NoNumber(key));
