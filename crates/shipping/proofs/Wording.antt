@@ -3,10 +3,9 @@ use Rattle.std.proofs.Common.{◌≡◌, ℕ, ◌+◌, ◌<◌, ◌≤◌, ◌�
 use Rattle.std.proofs.lemmas.List.{length-map, get_or-map, take_more, take_all, take-append-drop}
 use Rattle.shipping.specs.declared.options.Key.{Key}
 use Rattle.shipping.specs.declared.options.Options.{Options}
-use Rattle.shipping.specs.declared.options.Parcel.{Parcel}
 use Rattle.shipping.specs.declared.options.UsageError.{UsageError}
 use Rattle.shipping.specs.declared.options.UsageError.TheVariants.{NoMemory}
-use Rattle.shipping.specs.Words.{wanted, key_text, SoFar, Begins, NamesFile, Takes, TakesAll, Stops, Meant}
+use Rattle.shipping.specs.Words.{key_text, SoFar, Begins, NamesFile, Takes, TakesAll, Stops, Meant}
 
 -- ---- one word
 
@@ -63,11 +62,3 @@ end_of (w ∷ ws) s t h g = inr (h.0, h.1, end_of ws h.0 t h.2 g)
 pub finished : (ws : List (List ℕ)) (s t : SoFar) (r : Result Options UsageError) → TakesAll ws s t → MatchResult r (λ o. Meant t o) (λ _. t.awaits ≡ None → t.parcels ≡ []) → MatchResult r (λ o. (u : SoFar) × TakesAll ws s u × Meant u o) (λ e. (e ≡ NoMemory) ⊎ Stops ws s)
 finished ws s t (Ok o) h m = (t, h, m)
 finished ws s t (Err e) h m = inr (end_of ws s t h m)
-
-pub none_wanted : (xs : List Parcel) → length xs ≡ 0 → map wanted xs ≡ []
-none_wanted [] h = refl
-none_wanted (x ∷ xs) h = absurd (omega arith)
-
-pub some_wanted : (xs : List Parcel) → map wanted xs ≡ [] → length xs ≡ 0
-some_wanted [] h = refl
-some_wanted (x ∷ xs) h = let z : ◌≡◌ {A = ℕ} 0 1 = cc in absurd (omega arith)

@@ -11,5 +11,5 @@ returns c =
       c.in_ok-read_parcel.ensures,
       ap (λ (ps : List Wanted). record { frame = s.frame; credit = s.credit; awaits = s.awaits; parcels = ps })
           (ap (map wanted) c.in_ok-push.ensures.items ∙ map_push wanted (vec_items s.parcels) p)
-      ∙ ap (λ (t : SoFar). with_parcel (wanted p) t) c.self.view_is,
+          ∙ ap (λ (t : SoFar). with_parcel (wanted p) t) c.self.view_is,
     )
