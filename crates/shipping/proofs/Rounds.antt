@@ -36,7 +36,7 @@ pub tells_accepted : (u : View) (len k : ℕ) → u.settings.snd_settle_mode ≡
 tells_accepted u len k mode table seats = simp (mode, table, seats, same, self)
 
 pub table_empty : (u : View) (len k : ℕ) → u.settings.snd_settle_mode ≡ Unsettled → u.held.table ≡ [] → u.seats ≡ replicate (suc k) Free → (round u len).held.table ≡ []
-table_empty u len k mode table seats = simp (mode, table, seats, same, self)
+table_empty u len k mode table seats = simp (mode, table, seats, same)
 
 pub seats_free : (u : View) (len k : ℕ) → u.settings.snd_settle_mode ≡ Unsettled → u.held.table ≡ [] → u.seats ≡ replicate (suc k) Free → (round u len).seats ≡ replicate (suc k) Free
 seats_free u len k mode table seats = simp (mode, table, seats, same, self)

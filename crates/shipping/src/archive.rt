@@ -1,5 +1,5 @@
 // The archive at the link's other end: it joins the payloads that come, and judges what they make.
-ghost use Rattle.std.specs.Prelude.{◌≡◌, OnOk};
+ghost use Rattle.std.specs.Prelude.{◌≡◌, Some, None, OnOk, MatchOption};
 ghost use Rattle.shipping.specs.Archives.{Intake, untouched, tag_in, took, granting, Judged};
 
 use amqp::condition::AmqpError;
@@ -77,18 +77,12 @@ impl Archive {
         }
     }
 
-    // The tag of the last delivery.
-    pub fn tag(&self) -> Option<DeliveryTag>
-        ensures { result ≡ self.now.tag }
+    // The last delivery's tag, and how the archive judges what came of it against the message. Nothing if no tag is known.
+    pub fn answer(&self, message: &[u8]) -> Option<(DeliveryTag, DeliveryState)>
+        ensures { MatchOption result (self.now.tag ≡ None) (λ a. (self.now.tag ≡ Some a.0) × Judged self.now.joined message.now a.1) }
     {
-        self.tag
-    }
-
-    // What has come of it.
-    pub fn joined(&self) -> &[u8]
-        ensures { result.now ≡ self.now.joined }
-    {
-        self.joined.as_slice()
+        let tag = self.tag?;
+        Some((tag, judge(self.joined.as_slice(), message)))
     }
 
     // A flow that grants this credit from what has come so far.

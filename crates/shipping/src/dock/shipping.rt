@@ -6,7 +6,6 @@ ghost use Rattle.shipping.specs.Sections.{data_section};
 ghost use Rattle.shipping.specs.Unloading.{emptied};
 
 use super::Dock;
-use crate::archive::judge;
 use crate::message::data_section;
 use crate::report::{OutOfMemory, ShipError, Shipment};
 use crate::unload::unload;
@@ -22,8 +21,7 @@ impl<'a> Dock<'a> {
     {
         let before = self.queue.vacancy();
         unload(&mut self.queue, &mut self.out, &mut self.archive)?;
-        if let Some(tag) = self.archive.tag() {
-            let state = judge(self.archive.joined(), message);
+        if let Some((tag, state)) = self.archive.answer(message) {
             let _ = self.link.disposition(&tag, true, Some(state));
         }
         Ok(self.queue.vacancy().saturating_sub(before))
