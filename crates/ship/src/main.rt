@@ -30,14 +30,14 @@ fn fail(rt: &HostRuntime, what: impl fmt::Display + Drop) -> Failed {
     Failed
 }
 
-// Ships one file after the other, until one cannot be read. Whether all were sent.
+// Ships one file after the other, until one cannot be read. It fails too where one was refused.
 fn ship_all(
     rt: &HostRuntime,
     options: &Options<'_>,
     dock: &mut Dock<'_>,
     totals: &mut Totals,
-) -> Result<bool, Failed> {
-    let mut all = true;
+) -> Result<(), Failed> {
+    let mut shipped = Ok(());
     for parcel in &options.parcels {
         let shelf = parcel.shelf;
         let path = parcel.path;
@@ -50,12 +50,12 @@ fn ship_all(
             }
             Err(refused @ ShipError::Refused(_)) => {
                 println!(rt; "{shelf} {path}: {len} bytes, {refused}")?;
-                all = false;
+                shipped = Err(Failed);
             }
             Err(e) => return Err(fail(rt, e)),
         }
     }
-    Ok(all)
+    shipped
 }
 
 fn run(rt: &HostRuntime, options: &Options<'_>) -> Result<(), Failed> {
@@ -64,9 +64,9 @@ fn run(rt: &HostRuntime, options: &Options<'_>) -> Result<(), Failed> {
     let mut dock = Dock::open(heap, &mut memory, options.frame, options.credit)
         .map_err(|e| fail(rt, e))?;
     let mut totals = Totals::default();
-    let outcome = ship_all(rt, options, &mut dock, &mut totals);
+    let shipped = ship_all(rt, options, &mut dock, &mut totals);
     println!(rt; "{totals}")?;
-    if outcome? { Ok(()) } else { Err(Failed) }
+    shipped
 }
 
 // The words after the program's name.

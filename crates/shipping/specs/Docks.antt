@@ -9,7 +9,7 @@ use Rattle.amqp.specs.declared.state.DeliveryState.{DeliveryState}
 use Rattle.amqp.specs.declared.state.DeliveryState.TheVariants.{Accepted}
 use Rattle.amqp.specs.declared.tag.DeliveryTag.{DeliveryTag}
 use Rattle.sink.specs.Frames.{Model}
-use Rattle.queue.specs.Queues.{model_of, empty}
+use Rattle.queue.specs.Queues.{empty}
 use Rattle.link.specs.declared.delivery.Outcome.TheVariants.{State}
 use Rattle.link.specs.declared.delivery.Progress.{Progress}
 use Rattle.link.specs.declared.delivery.Progress.TheVariants.{Ended}
@@ -22,19 +22,18 @@ use Rattle.link.specs.Turns.{landed}
 use Rattle.link.specs.Views.{View}
 use Rattle.sender.specs.declared.ticket.Settlement.{Settlement}
 use Rattle.sender.specs.Sends.{answered}
-use Rattle.sender.specs.Views.{view}
-use Rattle.shipping.specs.declared.dock.Dock.{Dock}
 use Rattle.shipping.specs.declared.report.ShipError.{ShipError}
 use Rattle.shipping.specs.declared.report.ShipError.TheVariants.{Refused, NoMemory, Link}
 use Rattle.shipping.specs.declared.report.Shipment.{Shipment}
 use Rattle.shipping.specs.Archives.{Intake, took_all, Judged}
 use Rattle.shipping.specs.Unloading.{emptied}
 
-abbrev pub link_of : Dock → View
-link_of d = view d.link
-
-abbrev pub queue_of : Dock → Model
-queue_of d = model_of d.queue
+-- what is known of a dock: its link, the frames that wait, what its archive has taken in, and the credit granted at a time
+pub record Docked : Type 0 where
+  pub link : View
+  pub queue : Model
+  pub archive : Intake
+  pub credit : ℕ
 
 -- ---- room in the queue
 

@@ -11,11 +11,10 @@ use Rattle.link.specs.declared.state.LinkState.TheVariants.{Attached}
 use Rattle.link.specs.Views.{View, Rooms, empty, bad_sizes}
 use Rattle.sender.specs.declared.sender_link.SenderLink.{SenderLink}
 use Rattle.sender.specs.Views.{rooms_of, view}
-use Rattle.shipping.specs.declared.dock.Dock.{Dock}
 use Rattle.shipping.specs.declared.dock.opening.LinkMemory.{LinkMemory}
 use Rattle.shipping.specs.declared.report.ShipError.{ShipError}
 use Rattle.shipping.specs.declared.report.ShipError.TheVariants.{Refused, NoMemory, Link}
-use Rattle.shipping.specs.Docks.{link_of, queue_of, AtRest}
+use Rattle.shipping.specs.Docks.{Docked, AtRest}
 
 abbrev pub rooms_in : LinkMemory → Rooms
 rooms_in m = rooms_of (vec_len m.table) (vec_len m.resume) (vec_len m.resend)
@@ -61,13 +60,13 @@ abbrev pub frame_cap : ℕ → ℕ
 frame_cap frame = min frame 65535
 
 -- a dock at rest, with this frame size and credit
-pub record Open (m : LinkMemory) (frame credit : ℕ) (d : Dock) : Type 0 where
-  pub link : link_of d ≡ opened (frame_cap frame) credit (rooms_in m) (seats_in m)
-  pub queue : queue_of d ≡ queues.empty 16 (max (frame_cap frame) 1)
-  pub rest : AtRest (link_of d) (queue_of d)
+pub record Open (m : LinkMemory) (frame credit : ℕ) (d : Docked) : Type 0 where
+  pub link : d.link ≡ opened (frame_cap frame) credit (rooms_in m) (seats_in m)
+  pub queue : d.queue ≡ queues.empty 16 (max (frame_cap frame) 1)
+  pub rest : AtRest d.link d.queue
 
 -- the dock, or an error for want of memory, or where the sizes of what the link is lent do not fit
-abbrev pub Opening : LinkMemory → (frame credit : ℕ) → Result Dock ShipError → Type 0
+abbrev pub Opening : LinkMemory → (frame credit : ℕ) → Result Docked ShipError → Type 0
 Opening m frame credit (Ok d) = Open m frame credit d
 Opening m frame credit (Err (Refused e)) = ⊥
 Opening m frame credit (Err NoMemory) = Unit {0}

@@ -4,7 +4,7 @@ ghost use Rattle.link.specs.Calls.{Flow, step};
 ghost use Rattle.link.specs.Sending.{carrier};
 ghost use Rattle.sender.specs.Sends.{Sends};
 ghost use Rattle.shipping.specs.Archives.{granting};
-ghost use Rattle.shipping.specs.Docks.{link_of, queue_of, roomier, plain, Sending, SendingAgain};
+ghost use Rattle.shipping.specs.Docks.{roomier, plain, Sending, SendingAgain};
 
 use super::Dock;
 use super::opening::empty_queue;
@@ -33,8 +33,8 @@ pub fn plain(len: usize) -> Sendable
 impl<'a> Dock<'a> {
     // The archive grants its credit anew, from what it has seen.
     pub(super) fn grant(&mut self)
-        ensures link { link_of self.new ≡ step (link_of self.old) (Flow (granting self.old.credit self.old.archive)) }
-        ensures queue { queue_of self.new ≡ queue_of self.old }
+        ensures link { self.new.link ≡ step self.old.link (Flow (granting self.old.credit self.old.archive)) }
+        ensures queue { self.new.queue ≡ self.old.queue }
     {
         let flow = self.archive.grant(self.credit);
         let _ = self.link.flow(&flow);
@@ -42,8 +42,8 @@ impl<'a> Dock<'a> {
 
     // Reads the queue out, or makes it larger where nothing waits in it.
     fn make_room(&mut self) -> Result<(), OutOfMemory>
-        ensures link { link_of self.new ≡ link_of self.old }
-        ensures queue { OnOk result (queue_of self.new ≡ roomier (queue_of self.old)) }
+        ensures link { self.new.link ≡ self.old.link }
+        ensures queue { OnOk result (self.new.queue ≡ roomier self.old.queue) }
     {
         let before = self.queue.vacancy();
         unload(&mut self.queue, &mut self.out, &mut self.archive)?;
@@ -58,7 +58,7 @@ impl<'a> Dock<'a> {
     }
 
     fn try_send<E: Encoder>(&mut self, encoder: &E, message: &[u8]) -> Result<Settlement, SendError>
-        ensures { Sends (link_of self.old) (carrier (E.bytes encoder.now) message.now (queue_of self.old)) (plain (length message.now)) result (link_of self.new) (queue_of self.new) }
+        ensures { Sends self.old.link (carrier (E.bytes encoder.now) message.now self.old.queue) (plain (length message.now)) result self.new.link self.new.queue }
     {
         self.link
             .send(&mut self.queue, encoder, message, &plain(message.len()))
@@ -70,7 +70,7 @@ impl<'a> Dock<'a> {
         encoder: &E,
         message: &[u8],
     ) -> Result<Settlement, ShipError>
-        ensures { Sending (link_of self.old) (E.bytes encoder.now) message.now (queue_of self.old) result (link_of self.new) (queue_of self.new) }
+        ensures { Sending self.old.link (E.bytes encoder.now) message.now self.old.queue result self.new.link self.new.queue }
     {
         loop {
             match self.try_send(encoder, message) {
@@ -89,7 +89,7 @@ impl<'a> Dock<'a> {
         encoder: &E,
         message: &[u8],
     ) -> Result<Settlement, ShipError>
-        ensures { SendingAgain (link_of self.old) (E.bytes encoder.now) message.now (queue_of self.old) result (link_of self.new) (queue_of self.new) }
+        ensures { SendingAgain self.old.link (E.bytes encoder.now) message.now self.old.queue result self.new.link self.new.queue }
     {
         match self.send_in_room(encoder, message) {
             Err(ShipError::Refused(SendError::NoCredit)) => {

@@ -1,7 +1,7 @@
 // Shipping a file: its message is sent, read and judged at the other end, and the ticket collected.
 ghost use Rattle.std.specs.Prelude.{◌≡◌, length, IfOk, OnOk};
 ghost use Rattle.shipping.specs.Archives.{took_all};
-ghost use Rattle.shipping.specs.Docks.{link_of, queue_of, Answered, Settling, AtRest, Shipping};
+ghost use Rattle.shipping.specs.Docks.{Answered, Settling, AtRest, Shipping};
 ghost use Rattle.shipping.specs.Sections.{data_section};
 ghost use Rattle.shipping.specs.Unloading.{emptied};
 
@@ -16,8 +16,8 @@ use sink::sink::Sink;
 impl<'a> Dock<'a> {
     // The archive reads what waits, and answers for the message that it makes: how many frames there were.
     fn take_in(&mut self, message: &[u8]) -> Result<usize, OutOfMemory>
-        ensures queue { IfOk result (λ n. (queue_of self.new ≡ emptied (queue_of self.old)) × (n ≡ length (queue_of self.old).waiting)) }
-        ensures link { OnOk result (Answered (took_all (queue_of self.old).waiting self.old.archive) message.now (link_of self.old) (link_of self.new)) }
+        ensures queue { IfOk result (λ n. (self.new.queue ≡ emptied self.old.queue) × (n ≡ length self.old.queue.waiting)) }
+        ensures link { OnOk result (Answered (took_all self.old.queue.waiting self.old.archive) message.now self.old.link self.new.link) }
     {
         let before = self.queue.vacancy();
         unload(&mut self.queue, &mut self.out, &mut self.archive)?;
@@ -29,7 +29,7 @@ impl<'a> Dock<'a> {
 
     // The ticket is collected on every way out.
     fn settle(&mut self, ticket: Ticket, message: &[u8]) -> Result<Shipment, ShipError>
-        ensures { Settling (link_of self.old) (queue_of self.old) self.old.archive message.now ticket.number result (link_of self.new) (queue_of self.new) }
+        ensures { Settling self.old.link self.old.queue self.old.archive message.now ticket.number result self.new.link self.new.queue }
     {
         let number = ticket.number();
         let taken = self.take_in(message);
@@ -46,7 +46,7 @@ impl<'a> Dock<'a> {
         encoder: &E,
         message: &[u8],
     ) -> Result<Shipment, ShipError>
-        ensures { AtRest (link_of self.old) (queue_of self.old) → Shipping (link_of self.old) (E.bytes encoder.now) message.now result (link_of self.new) (queue_of self.new) }
+        ensures { AtRest self.old.link self.old.queue → Shipping self.old.link (E.bytes encoder.now) message.now result self.new.link self.new.queue }
     {
         match self.send(encoder, message)? {
             Settlement::Unsettled(ticket) => self.settle(ticket, message),
@@ -56,7 +56,7 @@ impl<'a> Dock<'a> {
 
     // Ships a file. Where no delivery is under way before, it is accepted, or refused and nothing is under way.
     pub fn ship<E: Encoder>(&mut self, encoder: &E, file: &[u8]) -> Result<Shipment, ShipError>
-        ensures { AtRest (link_of self.old) (queue_of self.old) → Shipping (link_of self.old) (E.bytes encoder.now) (data_section file.now) result (link_of self.new) (queue_of self.new) }
+        ensures { AtRest self.old.link self.old.queue → Shipping self.old.link (E.bytes encoder.now) (data_section file.now) result self.new.link self.new.queue }
     {
         let message = data_section(self.heap, file)?;
         self.ship_message(encoder, message.as_slice())

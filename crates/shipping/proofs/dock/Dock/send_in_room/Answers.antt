@@ -1,6 +1,5 @@
 use Rattle.std.proofs.Common.{ap, ◌∙◌}
 use Rattle.sink.specs.Frames.{Model}
-use Rattle.shipping.specs.Docks.{link_of, queue_of}
 use Rattle.shipping.proofs.Room.{fed, roomier_none}
 use Rattle.shipping.proofs.Sends.{gone_later, stayed}
 use Rattle.shipping.proofs.dock.Dock.send_in_room.Goals as goal
@@ -13,11 +12,11 @@ pub loop-settlement-preserved : goal.loop-settlement-preserved
 loop-settlement-preserved g c =
     let after = c.in_ok-make_room-in-SinkFull.ensures in
     let kept = stayed _ _ _ _ _ _ c.in-Err.ensures in
-    (after.link ∙ kept.0 ∙ c.loop-settlement.invariant.0, λ e. ap (λ (m : Model). m.waiting) after.queue ∙ roomier_none (queue_of c.try_send.new.self))
+    (after.link ∙ kept.0 ∙ c.loop-settlement.invariant.0, λ e. ap (λ (m : Model). m.waiting) after.queue ∙ roomier_none c.try_send.new.self.queue)
 
 pub returns-in-Ok : goal.returns-in-Ok
 returns-in-Ok g c =
-    gone_later _ (link_of c.loop-settlement.self) _ _ _ (queue_of c.loop-settlement.self) _ _ _ c.loop-settlement.invariant.0 c.loop-settlement.invariant.1 c.in-Ok.ensures
+    gone_later _ c.loop-settlement.self.link _ _ _ c.loop-settlement.self.queue _ _ _ c.loop-settlement.invariant.0 c.loop-settlement.invariant.1 c.in-Ok.ensures
 
 pub returns-in_default : goal.returns-in_default
 returns-in_default g c =
