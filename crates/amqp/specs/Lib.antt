@@ -2,3 +2,4 @@ pub mod States
 pub mod Refusals
 pub mod Tags
 pub mod Headers
+pub mod Texts

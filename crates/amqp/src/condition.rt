@@ -2,9 +2,9 @@
 ghost use Rattle.std.specs.Prelude.{◌≡◌};
 ghost use Rattle.amqp.specs.States.{condition_number};
 
-#[derive(Clone, Copy)]
+#[derive(Clone, Copy, PartialEq, Eq)]
 pub enum AmqpError {
-    InternalError,
+    InternalError = 1,
     NotFound,
     UnauthorizedAccess,
     DecodeError,
@@ -24,20 +24,6 @@ impl AmqpError {
     pub fn number(self) -> u8
         ensures { result ≡ condition_number self }
     {
-        match self {
-            AmqpError::InternalError => 1,
-            AmqpError::NotFound => 2,
-            AmqpError::UnauthorizedAccess => 3,
-            AmqpError::DecodeError => 4,
-            AmqpError::ResourceLimitExceeded => 5,
-            AmqpError::NotAllowed => 6,
-            AmqpError::InvalidField => 7,
-            AmqpError::NotImplemented => 8,
-            AmqpError::ResourceLocked => 9,
-            AmqpError::PreconditionFailed => 10,
-            AmqpError::ResourceDeleted => 11,
-            AmqpError::IllegalState => 12,
-            AmqpError::FrameSizeTooSmall => 13,
-        }
+        self as u8
     }
 }

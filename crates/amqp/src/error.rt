@@ -5,21 +5,21 @@ ghost use Rattle.amqp.specs.Refusals.{make_number, state_number, sink_number, se
 use crate::stop::SessionStopReason;
 
 // Making a link or a sink.
-#[derive(Clone, Copy)]
+#[derive(Clone, Copy, PartialEq, Eq)]
 pub enum MakeError {
     // A size is outside its bounds.
     Sizes,
 }
 
 // The state of a link, or of what carries its frames.
-#[derive(Clone, Copy)]
+#[derive(Clone, Copy, PartialEq, Eq)]
 pub enum LinkStateError {
     IllegalState,
     SessionStopped(SessionStopReason),
 }
 
 // Putting a frame into a sink.
-#[derive(Clone, Copy)]
+#[derive(Clone, Copy, PartialEq, Eq)]
 pub enum SinkError {
     SessionStopped(SessionStopReason),
     PayloadTooWide,
@@ -27,7 +27,7 @@ pub enum SinkError {
 }
 
 // Sending a message.
-#[derive(Clone, Copy)]
+#[derive(Clone, Copy, PartialEq, Eq)]
 pub enum SendError {
     LinkState(LinkStateError),
     // The message does not lie within the pool, or the pool is too long.
@@ -47,7 +47,7 @@ pub enum SendError {
 }
 
 // The peer's attach.
-#[derive(Clone, Copy)]
+#[derive(Clone, Copy, PartialEq, Eq)]
 pub enum SenderAttachError {
     IllegalState,
     IncomingTargetIsNone,
@@ -60,14 +60,14 @@ pub enum SenderAttachError {
 }
 
 // A ticket that is looked at or collected.
-#[derive(Clone, Copy)]
+#[derive(Clone, Copy, PartialEq, Eq)]
 pub enum TicketError {
     // No seat has its number.
     NoSeat,
 }
 
 // Memory handed in for an answer.
-#[derive(Clone, Copy)]
+#[derive(Clone, Copy, PartialEq, Eq)]
 pub enum MemoryError {
     TooShort,
 }

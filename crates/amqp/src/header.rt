@@ -6,7 +6,7 @@ use crate::state::DeliveryState;
 use crate::tag::DeliveryTag;
 
 // A transfer. The receiver's settle mode is always absent: the one of the attach holds.
-#[derive(Clone, Copy)]
+#[derive(Clone, Copy, PartialEq, Eq)]
 pub struct Transfer {
     pub handle: u32,
     pub delivery_id: Option<u32>,
@@ -21,7 +21,7 @@ pub struct Transfer {
 }
 
 // A sender's disposition of one delivery: its role is sender, and it has no last id.
-#[derive(Clone, Copy)]
+#[derive(Clone, Copy, PartialEq, Eq)]
 pub struct Disposition {
     pub first: u32,
     pub settled: bool,
@@ -29,13 +29,13 @@ pub struct Disposition {
     pub batchable: bool,
 }
 
-#[derive(Clone, Copy)]
+#[derive(Clone, Copy, PartialEq, Eq)]
 pub enum Header {
     Transfer(Transfer),
     Disposition(Disposition),
 }
 
-#[derive(Clone, Copy)]
+#[derive(Clone, Copy, PartialEq, Eq)]
 pub enum FrameKind {
     First,
     Continuation,

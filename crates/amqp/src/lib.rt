@@ -8,3 +8,4 @@ pub mod mode;
 pub mod state;
 pub mod stop;
 pub mod tag;
+pub mod text;

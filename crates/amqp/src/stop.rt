@@ -1,7 +1,7 @@
 // Why a session, and the connection below it, no longer carries frames.
 use crate::condition::AmqpError;
 
-#[derive(Clone, Copy)]
+#[derive(Clone, Copy, PartialEq, Eq)]
 pub enum ConnectionStopReason {
     Closed,
     ClosedWithError(AmqpError),
@@ -9,7 +9,7 @@ pub enum ConnectionStopReason {
     RemoteClosedWithError(AmqpError),
 }
 
-#[derive(Clone, Copy)]
+#[derive(Clone, Copy, PartialEq, Eq)]
 pub enum SessionStopReason {
     Ended,
     EndedWithError(AmqpError),

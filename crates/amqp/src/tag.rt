@@ -1,42 +1,12 @@
 // A delivery tag: 0 to 32 bytes (Part 2, 2.8.7).
-ghost use Rattle.std.specs.Prelude.{◌≡◌, ◌+◌, ◌-◌, ◌≤◌, ◌++◌, length, take, drop, replicate, Decides, MatchOption};
-ghost use Rattle.amqp.specs.Tags.{le8, all_bytes, tag_bytes, tag_of, Canonical, SameBytesSameTag};
+ghost use Rattle.std.specs.Prelude.{◌≡◌, ◌+◌, ◌≤◌, length, MatchOption};
+ghost use Rattle.amqp.specs.Tags.{tag_bytes, tag_of, Canonical, SameBytesSameTag};
 
-// The bytes lie in four words, lowest first, with zeros past the length: so tags are compared by words.
-#[derive(Clone, Copy, PartialEq, Eq)]
+// Zeros stand past its bytes, so that tags of the same bytes are equal.
+#[derive(Clone, Copy, PartialEq, Eq, Default)]
 pub struct DeliveryTag {
     len: u8,
-    a: u64,
-    b: u64,
-    c: u64,
-    d: u64,
-}
-
-// Eight bytes as a word.
-fn word(s: &[u8], at: usize) -> u64
-    requires { at + 8 ≤ length s.now }
-    ensures { le8 result ≡ take 8 (drop at s.now) }
-{
-    u64::from_le_bytes([
-        s[at],
-        s[at + 1],
-        s[at + 2],
-        s[at + 3],
-        s[at + 4],
-        s[at + 5],
-        s[at + 6],
-        s[at + 7],
-    ])
-}
-
-// Zeros past the bytes.
-fn padded(s: &[u8]) -> [u8; 32]
-    requires { length s.now ≤ 32 }
-    ensures { result ≡ s.now ++ replicate (32 - length s.now) 0 }
-{
-    let mut all = [0u8; 32];
-    all[..s.len()].copy_from_slice(s);
-    all
+    bytes: [u8; 32],
 }
 
 impl DeliveryTag {
@@ -47,13 +17,11 @@ impl DeliveryTag {
         if s.len() > 32 {
             return None;
         }
-        let all = padded(s);
+        let mut bytes = [0; 32];
+        bytes[..s.len()].copy_from_slice(s);
         Some(DeliveryTag {
             len: s.len() as u8,
-            a: word(&all, 0),
-            b: word(&all, 8),
-            c: word(&all, 16),
-            d: word(&all, 24),
+            bytes,
         })
     }
 
@@ -61,15 +29,9 @@ impl DeliveryTag {
     pub fn from_count(count: u32) -> DeliveryTag
         ensures { result ≡ tag_of count }
     {
-        let [a, b, c, d] = count.to_be_bytes();
-        let first = u32::from_le_bytes([a, b, c, d]);
-        DeliveryTag {
-            len: 4,
-            a: u64::from(first),
-            b: 0,
-            c: 0,
-            d: 0,
-        }
+        let mut bytes = [0; 32];
+        bytes[..4].copy_from_slice(&count.to_be_bytes());
+        DeliveryTag { len: 4, bytes }
     }
 
     pub fn len(&self) -> usize
@@ -78,30 +40,15 @@ impl DeliveryTag {
         usize::from(self.len).min(32)
     }
 
-    // Its bytes, and what is past them.
-    pub fn bytes(&self) -> [u8; 32]
-        ensures whole { result ≡ all_bytes self.now }
-        ensures own { take (length (tag_bytes self.now)) result ≡ tag_bytes self.now }
+    pub fn as_slice(&self) -> &[u8]
+        ensures { result.now ≡ tag_bytes self.now }
     {
-        let mut all = [0u8; 32];
-        all[0..8].copy_from_slice(&self.a.to_le_bytes());
-        all[8..16].copy_from_slice(&self.b.to_le_bytes());
-        all[16..24].copy_from_slice(&self.c.to_le_bytes());
-        all[24..32].copy_from_slice(&self.d.to_le_bytes());
-        all
-    }
-
-    pub fn same(&self, other: &DeliveryTag) -> bool
-        ensures { Decides result (self.now ≡ other.now) }
-    {
-        *self == *other
+        &self.bytes[..self.len()]
     }
 }
 
 // Two tags with the same bytes are one tag, and a count's tag has its four bytes.
-pub fn same_bytes_same_tag() -> u8
-    ensures answer { result ≡ 0 }
-    ensures holds { SameBytesSameTag }
+pub fn same_bytes_same_tag()
+    ensures { SameBytesSameTag }
 {
-    0
 }

@@ -1,15 +1,17 @@
--- Compact bytes, at most 255, mean their value without the nulls at the end of its lists.
-use Rattle.std.proofs.Common.{◌≡◌, ℕ, suc, ◌+◌, ◌<◌, ◌≤◌, Bool, true, false, cond, eqb, ltb, List, [], ◌∷◌, length, refl, ap, arith}
-use Rattle.std.proofs.lemmas.List.{length-append, length-take}
-use Rattle.std.proofs.lemmas.Bool.{eqb-true, ltb-true}
-use Rattle.amqp.specs.Tags.{be4}
-use Rattle.codec.specs.Amqp.{Val, Vals, nil, cons, count, null, bool, uint, ulong, binary, symbol, list, described, be8, Means, MeanAll, none, more, null_40, true_41, false_42, uint_43, uint_52, uint_70, ulong_44, ulong_53, ulong_80, binary_a0, symbol_a3, list_45, list_c0, described_00}
-use Rattle.codec.specs.Compact.{compact, compacts, absent, keep, concat, compact_list}
-use Rattle.codec.specs.Meaning.{keep_value, trimmed, all_trimmed, Ranged, AllRanged}
+-- The bytes of a value, at most 255, mean what the form keeps of it.
+use Rattle.std.proofs.Common.{◌≡◌, ℕ, suc, ◌≤◌, Bool, true, false, List, [], ◌∷◌, length, refl, ap, arith}
+use Rattle.std.proofs.lemmas.List.{length-append}
+use Rattle.arrayvec.specs.ArrayVec.{ArrayVec}
+use Rattle.codec.specs.Amqp.{Val, Vals, nil, cons, count, null, bool, uint, ulong, binary, symbol, list, described, Means, MeanAll, none, more, null_40, described_00}
+use Rattle.codec.specs.Form.{Form, encoded, kept, left_out, keep, concat, list_of}
+use Rattle.codec.specs.Laws.{Lawful}
+use Rattle.codec.specs.Meaning.{keep_value, kept_of, all_kept, Ranged, AllRanged}
+use Rattle.amqp.specs.declared.header.Header.{Header}
+use Rattle.codec.specs.Values.{header_value}
+use Rattle.codec.specs.Headers.{header_bytes, MeansIn}
 use Rattle.codec.specs.Bodies.{Encodes}
-use Rattle.codec.specs.declared.scratch.Scratch.{Scratch}
 use Rattle.codec.proofs.Closing.{absent_null}
-use Rattle.codec.specs.Longer.{filled}
+use Rattle.codec.specs.Longer.{filled, out_absent}
 
 -- the fields that are kept mean these values, one each
 record Fields (ts : List (List ℕ)) (ws : Vals) : Type 0 where
@@ -32,44 +34,59 @@ keeps true b v (t ∷ ts) (cons w ws) l m r =
 keeps false b v ts ws l m r =
     record { mean = more m r.mean; count = ap suc r.count; few = omega (arith, length-append b (concat ts)) }
 
-inside : (ts : List (List ℕ)) (n : ℕ) → length (compact_list ts) ≤ n + 3 → length (concat ts) ≤ n
-inside [] n l = omega arith
-inside (t ∷ ts) n l = omega arith
+module _ (F : Form) (L : Lawful F) where
+  list_means : (ts : List (List ℕ)) (ws : Vals) → length (concat ts) ≤ 252 → Fields ts ws → Means (list_of F ts) (list ws)
+  list_means ts ws l r = rw r.count (L.meaning.lists (concat ts) ws l (omega (arith, r.count, r.few)) r.mean)
 
-list_means : (ts : List (List ℕ)) (ws : Vals) → length (concat ts) ≤ 252 → Fields ts ws → Means (compact_list ts) (list ws)
-list_means [] nil l r = list_45
-list_means [] (cons w ws) l r = absurd (omega arith)
-list_means (t ∷ ts) ws l r = rw r.count (list_c0 {b = concat (t ∷ ts)} {vs = ws} (omega arith) (omega arith) r.mean)
+  -- what is left out is a null
+  out_short : (v : Val) → left_out F.terse v ≡ true → length (encoded F v) ≤ 252
+  out_short v e = omega (arith, ap length (absent_null F v (out_absent F.terse v e)))
 
-shortest_means : (v : ℕ → Val) (i j k : ℕ) (ys : List ℕ) (x : ℕ) (a b : Bool) → eqb x 0 ≡ a → ltb x 256 ≡ b → Means (i ∷ []) (v 0) → (x < 256 → Means (j ∷ x ∷ []) (v x)) → Means (k ∷ ys) (v x) → Means (cond a (i ∷ []) (cond b (j ∷ x ∷ []) (k ∷ ys))) (v x)
-shortest_means v i j k ys x true b e f nought small wide = rw (eqb-true x 0 e) nought
-shortest_means v i j k ys x false true e f nought small wide = small (ltb-true x 256 f)
-shortest_means v i j k ys x false false e f nought small wide = wide
+  mutual
+    means : (v : Val) → Ranged v → length (encoded F v) ≤ 252 → Means (encoded F v) (kept_of F.terse v)
+    means null r l = null_40
+    means (bool b) r l = L.meaning.booleans b
+    means (uint x) r l = L.meaning.uints x r
+    means (ulong x) r l = L.meaning.ulongs x r
+    means (binary b) r l = L.meaning.binaries b (omega (arith, length-append (F.binaries (length b)) b))
+    means (symbol b) r l = L.meaning.symbols b (omega (arith, length-append (F.symbols (length b)) b))
+    means (list vs) r l =
+        let ts : List (List ℕ) = kept F vs in
+        let i : length (concat (kept F vs)) ≤ 252 = omega (arith, length-append (F.lists (length ts) (length (concat ts))) (concat ts)) in
+        list_means (kept F vs) (all_kept F.terse vs) i (all_mean vs r i)
+    means (described d v) r l =
+        let n = length-append (encoded F d) (encoded F v) in
+        described_00 (means d r.0 (omega arith)) (means v r.1 (omega arith))
 
-bool_means : (b : Bool) → Means (cond b 0x41 0x42 ∷ []) (bool b)
-bool_means true = true_41
-bool_means false = false_42
+    all_mean : (vs : Vals) → AllRanged vs → length (concat (kept F vs)) ≤ 252 → Fields (kept F vs) (all_kept F.terse vs)
+    all_mean nil r l = record { mean = none; count = refl; few = omega arith }
+    all_mean (cons v vs) r l =
+        let s = split (left_out F.terse v) (encoded F v) (kept F vs) 252 l (out_short v) in
+        keeps (left_out F.terse v) (encoded F v) (kept_of F.terse v) (kept F vs) (all_kept F.terse vs) (filled F L.sizes v) (means v r.0 s.0) (all_mean vs r.1 s.1)
+
+  encoded_means : (v : Val) (s : ArrayVec ℕ) → Encodes F 155 v s → Means (encoded F v) (kept_of F.terse v)
+  encoded_means v s e = means v e.ranged (omega (arith, ap length e.made))
 
 mutual
-  means : (v : Val) → Ranged v → length (compact v) ≤ 255 → Means (compact v) (trimmed v)
-  means null r l = null_40
-  means (bool b) r l = bool_means b
-  means (uint x) r l = shortest_means uint 0x43 0x52 0x70 (be4 x) x (eqb x 0) (ltb x 256) refl refl uint_43 uint_52 (uint_70 r)
-  means (ulong x) r l = shortest_means ulong 0x44 0x53 0x80 (be8 x) x (eqb x 0) (ltb x 256) refl refl ulong_44 ulong_53 (ulong_80 r)
-  means (binary b) r l = binary_a0 (omega arith)
-  means (symbol b) r l = symbol_a3 (omega arith)
-  means (list vs) r l =
-      let i = inside (compacts vs) 252 (omega arith) in
-      list_means (compacts vs) (all_trimmed vs) i (all_mean vs r i)
-  means (described d v) r l =
-      let n = length-append (compact d) (compact v) in
-      described_00 (means d r.0 (omega arith)) (means v r.1 (omega arith))
+  -- a form that is not terse keeps all
+  keeps_all : (v : Val) → kept_of false v ≡ v
+  keeps_all null = refl
+  keeps_all (bool b) = refl
+  keeps_all (uint x) = refl
+  keeps_all (ulong x) = refl
+  keeps_all (binary b) = refl
+  keeps_all (symbol b) = refl
+  keeps_all (list vs) = ap list (keeps_each vs)
+  keeps_all (described d v) = rw (keeps_all d, keeps_all v)
 
-  all_mean : (vs : Vals) → AllRanged vs → length (concat (compacts vs)) ≤ 252 → Fields (compacts vs) (all_trimmed vs)
-  all_mean nil r l = record { mean = none; count = refl; few = omega arith }
-  all_mean (cons v vs) r l =
-      let s = split (absent v) (compact v) (compacts vs) 252 l (λ e. omega (arith, ap length (absent_null v e))) in
-      keeps (absent v) (compact v) (trimmed v) (compacts vs) (all_trimmed vs) (filled v) (means v r.0 (omega arith)) (all_mean vs r.1 s.1)
+  keeps_each : (vs : Vals) → all_kept false vs ≡ vs
+  keeps_each nil = refl
+  keeps_each (cons v vs) = rw (keeps_all v, keeps_each vs)
 
-pub encoded_means : (v : Val) (s : Scratch) → Encodes 255 v s → Means (compact v) (trimmed v)
-encoded_means v s e = means v e.ranged (omega (arith, ap length e.made, length-take s.len s.bytes))
+means_in : (terse : Bool) (bytes : List ℕ) (h : Header) → Means bytes (kept_of terse (header_value terse h)) → MeansIn terse bytes h
+means_in true bytes h m = m
+means_in false bytes h m = rw (keeps_all (header_value false h)) at m
+
+-- the bytes of a header mean it
+pub header_means : (F : Form) → Lawful F → (h : Header) (s : ArrayVec ℕ) → Encodes F 155 (header_value F.terse h) s → MeansIn F.terse (header_bytes F h) h
+header_means F L h s e = means_in F.terse (header_bytes F h) h (encoded_means F L (header_value F.terse h) s e)

@@ -1,8 +1,14 @@
 pub mod Written
 pub mod Amqp
+pub mod Form
 pub mod Compact
+pub mod Wide
 pub mod Values
 pub mod Meaning
+pub mod Laws
 pub mod Headers
 pub mod Bodies
+pub mod Descriptors
+pub mod Refusals
+pub mod Forms
 pub mod Longer

@@ -17,10 +17,11 @@ abbrev pub optional : {A : Type 0} → (A → Val) → Option A → Val
 optional f None = null
 optional f (Some x) = f x
 
--- a boolean that is false where it is absent
-abbrev pub flag : Bool → Val
-flag true = bool true
-flag false = null
+-- a boolean that is false where it is absent: a terse form leaves a false out
+abbrev pub flag : Bool → Bool → Val
+flag true true = bool true
+flag true false = null
+flag false b = bool b
 
 abbrev pub tag_value : DeliveryTag → Val
 tag_value t = binary (tag_bytes t)
@@ -64,18 +65,19 @@ state_value Released = described (ulong 0x26) (list nil)
 state_value (Modified failed here) = described (ulong 0x27) (list (modified_fields failed here))
 
 -- handle, delivery-id, delivery-tag, message-format, settled, more, rcv-settle-mode, state, resume, aborted, batchable
-abbrev pub transfer_fields : Transfer → Vals
-transfer_fields h =
+abbrev pub transfer_fields : Bool → Transfer → Vals
+transfer_fields terse h =
     cons (uint h.handle) (cons (optional uint h.delivery_id) (cons (optional tag_value h.delivery_tag)
-    (cons (optional uint h.message_format) (cons (optional bool h.settled) (cons (flag h.more) (cons null
-    (cons (optional state_value h.state) (cons (flag h.resume) (cons (flag h.aborted) (cons (flag h.batchable) nil))))))))))
+    (cons (optional uint h.message_format) (cons (optional bool h.settled) (cons (flag terse h.more) (cons null
+    (cons (optional state_value h.state) (cons (flag terse h.resume) (cons (flag terse h.aborted) (cons (flag terse h.batchable) nil))))))))))
 
 -- role, first, last, settled, state, batchable: the role of a sender is false
-abbrev pub disposition_fields : Disposition → Vals
-disposition_fields h =
-    cons (bool false) (cons (uint h.first) (cons null (cons (flag h.settled) (cons (optional state_value h.state)
-    (cons (flag h.batchable) nil)))))
+abbrev pub disposition_fields : Bool → Disposition → Vals
+disposition_fields terse h =
+    cons (bool false) (cons (uint h.first) (cons null (cons (flag terse h.settled) (cons (optional state_value h.state)
+    (cons (flag terse h.batchable) nil)))))
 
-abbrev pub header_value : Header → Val
-header_value (header.Transfer h) = described (ulong 0x14) (list (transfer_fields h))
-header_value (header.Disposition h) = described (ulong 0x15) (list (disposition_fields h))
+-- in a form that is terse or not
+abbrev pub header_value : Bool → Header → Val
+header_value terse (header.Transfer h) = described (ulong 0x14) (list (transfer_fields terse h))
+header_value terse (header.Disposition h) = described (ulong 0x15) (list (disposition_fields terse h))

@@ -1,22 +1,28 @@
-// The fields of a list, met one by one: absent ones wait, since those at the end are left out.
-ghost use Rattle.std.specs.Prelude.{◌≡◌, ◌+◌, ◌≤◌, ◌∷◌, length};
-ghost use Rattle.codec.specs.Bodies.{held, met, none_met, skipped, added, closed, Empty, Room, Grew};
+// The fields of a list, met one by one: absent ones wait, since a terse form leaves out those at the end.
+ghost use Rattle.std.specs.Prelude.{◌≡◌, ◌+◌, ◌<◌, ◌≤◌};
+ghost use Rattle.arrayvec.specs.ArrayVec.{array_vec_len};
+ghost use Rattle.codec.specs.Bodies.{met, none_met, skipped, with_nulls, begun, ended, closed, Empty, Room, Grew};
+ghost use Rattle.codec.specs.Descriptors.{descriptor_code};
 
-use crate::scratch::Scratch;
+use crate::descriptor::Descriptor;
+use crate::form::Form;
+use crate::scratch::{Scratch, append};
+use std::marker::PhantomData;
 
 const NULLS: [u8; 16] = [0x40; 16];
 
 #[derive(Drop)]
-pub(crate) struct Body {
+pub(crate) struct Body<F> {
     // The fields up to the last that is present, and how many they are.
-    bytes: Scratch,
+    pub(crate) bytes: Scratch,
     count: u8,
     // How many absent ones follow.
     gap: u8,
+    form: PhantomData<F>,
 }
 
-impl Body {
-    pub(crate) fn new() -> Body
+impl<F: Form> Body<F> {
+    pub(crate) fn new() -> Body<F>
         ensures made { met result ≡ none_met }
         ensures empty { Empty result }
     {
@@ -24,6 +30,7 @@ impl Body {
             bytes: Scratch::new(),
             count: 0,
             gap: 0,
+            form: PhantomData,
         }
     }
 
@@ -35,33 +42,53 @@ impl Body {
         self.gap += 1;
     }
 
-    pub(crate) fn put(&mut self, field: &[u8])
-        requires { Room (length field.now) self.old }
-        ensures made { met self.new ≡ added (met self.old) field.now }
-        ensures grew { Grew (length field.now) self.old self.new }
+    // Writes the absent fields that wait as nulls.
+    fn write_nulls(&mut self)
+        requires { Room 0 self.old }
+        ensures made { met self.new ≡ with_nulls (met self.old) }
+        ensures len { array_vec_len self.new.bytes ≡ array_vec_len self.old.bytes + self.old.gap }
     {
         let gap = usize::from(self.gap);
-        self.bytes.append(&NULLS[0..gap]);
-        self.bytes.append(field);
-        self.count += self.gap + 1;
+        append(&mut self.bytes, &NULLS[..gap]);
+        self.count += self.gap;
         self.gap = 0;
     }
 
-    // The described list of these fields: its size counts the byte of its count.
-    pub(crate) fn close(&self, code: u8) -> Scratch
-        requires { self.now.bytes.len ≤ 249 }
-        ensures made { held result ≡ 0x00 ∷ 0x53 ∷ code ∷ closed (met self.now) }
-        ensures len { result.len ≤ self.now.bytes.len + 6 }
+    // Counts one more field that is present: its bytes are to follow.
+    pub(crate) fn begin(&mut self)
+        requires { Room 0 self.old }
+        ensures made { met self.new ≡ begun (met self.old) }
+        ensures len { array_vec_len self.new.bytes ≡ array_vec_len self.old.bytes + self.old.gap }
     {
-        let mut list = Scratch::new();
-        if self.count == 0 {
-            list.append(&[0x00, 0x53, code, 0x45]);
-        } else {
-            let fields = self.bytes.as_slice();
-            let size = fields.len() as u8 + 1;
-            list.append(&[0x00, 0x53, code, 0xc0, size, self.count]);
-            list.append(fields);
+        self.write_nulls();
+        self.count += 1;
+    }
+
+    // Leaves out the absent fields at the end, or writes them.
+    fn end(&mut self)
+        requires { Room 0 self.old }
+        ensures made { met self.new ≡ ended F.Form.form (met self.old) }
+        ensures len { array_vec_len self.new.bytes ≤ array_vec_len self.old.bytes + self.old.gap }
+    {
+        if !F::terse() {
+            self.write_nulls();
         }
+    }
+
+    // The list of these fields, described: 0x00, the descriptor and the list (Part 1, 1.2).
+    pub(crate) fn close(mut self, descriptor: Descriptor) -> Scratch
+        requires few { self.count + self.gap < 16 }
+        requires len { array_vec_len self.bytes + self.gap ≤ 230 }
+        ensures made { result.items ≡ closed F.Form.form (descriptor_code descriptor) (met self) }
+        ensures len { array_vec_len result ≤ array_vec_len self.bytes + self.gap + 19 }
+    {
+        self.end();
+        let fields = self.bytes.as_slice();
+        let mut list = Scratch::new();
+        list.push(0x00);
+        F::ulong(&mut list, descriptor.code());
+        F::list(&mut list, self.count, fields.len() as u8);
+        append(&mut list, fields);
         list
     }
 }

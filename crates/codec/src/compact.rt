@@ -1,39 +1,96 @@
-// The compact encoder: the shortest codes, and no nulls at the end of a list.
-ghost use Rattle.std.specs.Prelude.{◌≡◌};
-ghost use Rattle.codec.specs.Headers.{compact_bytes, MeansHeader, PlainMeasures21};
-ghost use Rattle.codec.specs.Written.{written, after_write};
-ghost use Rattle.codec.specs.Longer;
+// The compact encoder: the shortest codes, and nothing that can be left out.
+ghost use Rattle.std.specs.Prelude.{◌≡◌, ◌+◌, ◌<◌, ◌≤◌, length};
+ghost use Rattle.arrayvec.specs.ArrayVec.{array_vec_len};
+ghost use Rattle.codec.specs.Bodies.{Appended};
+ghost use Rattle.codec.specs.Compact.{compact_form, shortest};
+ghost use Rattle.codec.specs.Headers.{compact_bytes, AtMost255, PlainMeasures21};
+ghost use Rattle.codec.specs.Forms.{compact_lawful};
 
-use crate::encoder::Encoder;
-use crate::header::encoded;
-use amqp::error::MemoryError;
-use amqp::header::Header;
+use crate::form::Form;
+use crate::scratch::{Scratch, append_coded};
 
 #[derive(Clone, Copy)]
 pub struct Compact;
 
-impl Encoder for Compact {
-    ghost bytes = { λ _ h. compact_bytes h };
+// The codes of a number by its size: of 0, before one byte, and before all digits.
+#[derive(Clone, Copy)]
+struct Codes {
+    none: u8,
+    small: u8,
+    wide: u8,
+}
 
-    ghost widest = { λ e h. Longer.widest h };
+const UINT: Codes = Codes {
+    none: 0x43,
+    small: 0x52,
+    wide: 0x70,
+};
 
-    fn size(&self, header: &Header) -> usize {
-        encoded(header).as_slice().len()
-    }
+const ULONG: Codes = Codes {
+    none: 0x44,
+    small: 0x53,
+    wide: 0x80,
+};
 
-    fn write(&self, header: &Header, out: &mut [u8]) -> Result<usize, MemoryError>
-        ensures answer { result ≡ written (compact_bytes header.now) out.old }
-        ensures after { out.new ≡ after_write (compact_bytes header.now) out.old }
-        ensures meaning { MeansHeader (compact_bytes header.now) header.now }
-    {
-        encoded(header).copy_to(out)
+fn append_shortest(out: &mut Scratch, codes: Codes, x: u64, digits: &[u8])
+    requires room { array_vec_len out.old + length digits.now < 256 }
+    requires some { 1 ≤ length digits.now }
+    ensures { Appended (length digits.now + 1) (shortest codes.none codes.small codes.wide digits.now x) out.old out.new }
+{
+    if x == 0 {
+        out.push(codes.none);
+    } else if x < 256 {
+        append_coded(out, codes.small, &[x as u8]);
+    } else {
+        append_coded(out, codes.wide, digits);
     }
 }
+
+impl Form for Compact {
+    ghost form = { compact_form };
+
+    ghost lawful = { compact_lawful };
+
+    fn terse() -> bool {
+        true
+    }
+
+    fn boolean(out: &mut Scratch, x: bool) {
+        out.push(if x { 0x41 } else { 0x42 });
+    }
+
+    fn uint(out: &mut Scratch, x: u32) {
+        append_shortest(out, UINT, u64::from(x), &x.to_be_bytes());
+    }
+
+    fn ulong(out: &mut Scratch, x: u64) {
+        append_shortest(out, ULONG, x, &x.to_be_bytes());
+    }
+
+    fn binary(out: &mut Scratch, len: u8) {
+        append_coded(out, 0xa0, &[len]);
+    }
+
+    fn symbol(out: &mut Scratch, len: u8) {
+        append_coded(out, 0xa3, &[len]);
+    }
+
+    // The size counts the byte of the count.
+    fn list(out: &mut Scratch, count: u8, len: u8) {
+        if count == 0 {
+            out.push(0x45);
+        } else {
+            append_coded(out, 0xc0, &[len + 1, count]);
+        }
+    }
+}
+
+// A compact header is at most 255 bytes long: `short`, a lemma about every form, said of this one.
+pub fn compact_is_at_most_255()
+    ensures { AtMost255 compact_bytes }
+{}
 
 // A new delivery's transfer with handle 0, a tag of 4 bytes and format 0, unsettled, measures 21 bytes.
-pub fn plain_transfer_measures_21() -> u8
-    ensures answer { result ≡ 0 }
-    ensures holds { PlainMeasures21 }
-{
-    0
-}
+pub fn plain_transfer_measures_21()
+    ensures { PlainMeasures21 }
+{}

@@ -1,50 +1,47 @@
-// The fields of lists, each in its shortest code (Part 1, 1.6).
-ghost use Rattle.std.specs.Prelude.{◌≡◌, ℕ, ◌+◌, ◌≤◌, ◌∷◌, length};
+// The fields of lists, in any form (Part 1, 1.6).
+#![tactic(auto, unfolding(crate::specs::Bodies::step))]
+
+ghost use Rattle.std.specs.Prelude.{ℕ, Bool, max};
 ghost use Rattle.codec.specs.Amqp.{Val, null, bool as boolean, uint, ulong};
 ghost use Rattle.codec.specs.Values.{optional, flag, tag_value};
-ghost use Rattle.codec.specs.Bodies.{met, added, Room, Grew, Took};
-ghost use Rattle.std.proofs.Common.{rules};
+ghost use Rattle.codec.specs.Bodies.{Room, Took};
 
 use crate::body::Body;
-use crate::scratch::Scratch;
+use crate::form::Form;
+use crate::scratch::append;
 use amqp::tag::DeliveryTag;
 
 pub(crate) trait Field {
-    ghost value: { Self → Val };
+    // Its value in a form that is terse or not.
+    ghost value: { Bool → Self → Val };
 
     // How many bytes it takes at most.
     ghost most: { ℕ };
 
-    fn append_to(&self, body: &mut Body)
+    fn append_to<F: Form>(&self, body: &mut Body<F>)
         requires { Room most body.old }
-        ensures { Took most (value self.now) body.old body.new };
-
-    ghost some: { 1 ≤ most };
+        ensures { Took F.Form.form most (value F.Form.form.terse self.now) body.old body.new };
 }
 
 #[derive(Drop)]
 pub(crate) struct Absent;
 
 impl Field for Absent {
-    ghost value = { λ _. null };
+    ghost value = { λ _ _. null };
 
     ghost most = { 1 };
 
-    ghost some = { Prim.search rules };
-
-    fn append_to(&self, body: &mut Body) {
+    fn append_to<F: Form>(&self, body: &mut Body<F>) {
         body.skip();
     }
 }
 
 impl<T: Field> Field for Option<T> {
-    ghost value = { optional T.Field.value };
+    ghost value = { λ terse x. optional (T.Field.value terse) x };
 
-    ghost most = { T.Field.most };
+    ghost most = { max 1 T.Field.most };
 
-    ghost some = { Prim.search rules };
-
-    fn append_to(&self, body: &mut Body) {
+    fn append_to<F: Form>(&self, body: &mut Body<F>) {
         match self {
             None => Absent.append_to(body),
             Some(x) => x.append_to(body),
@@ -52,19 +49,15 @@ impl<T: Field> Field for Option<T> {
     }
 }
 
+// Each type has its own method of a form: one impl for all would need a trait that picks it, and is no shorter.
 impl Field for bool {
-    ghost value = { boolean };
+    ghost value = { λ _ x. boolean x };
 
-    ghost most = { 1 };
+    ghost most = { 2 };
 
-    ghost some = { Prim.search rules };
-
-    fn append_to(&self, body: &mut Body) {
-        if *self {
-            body.put(&[0x41]);
-        } else {
-            body.put(&[0x42]);
-        }
+    fn append_to<F: Form>(&self, body: &mut Body<F>) {
+        body.begin();
+        F::boolean(&mut body.bytes, *self);
     }
 }
 
@@ -73,82 +66,50 @@ impl Field for bool {
 pub(crate) struct Flag(pub(crate) bool);
 
 impl Field for Flag {
-    ghost value = { λ f. flag f.0 };
+    ghost value = { λ terse f. flag terse f.0 };
 
-    ghost most = { 1 };
+    ghost most = { 2 };
 
-    ghost some = { Prim.search rules };
-
-    fn append_to(&self, body: &mut Body) {
-        if self.0 {
-            true.append_to(body);
-        } else {
+    fn append_to<F: Form>(&self, body: &mut Body<F>) {
+        if F::terse() && !self.0 {
             Absent.append_to(body);
+        } else {
+            self.0.append_to(body);
         }
     }
 }
 
 impl Field for u32 {
-    ghost value = { uint };
+    ghost value = { λ _ x. uint x };
 
     ghost most = { 5 };
 
-    ghost some = { Prim.search rules };
-
-    fn append_to(&self, body: &mut Body) {
-        let x = *self;
-        if x == 0 {
-            body.put(&[0x43]);
-        } else if x < 256 {
-            body.put(&[0x52, x as u8]);
-        } else {
-            let [a, b, c, d] = x.to_be_bytes();
-            body.put(&[0x70, a, b, c, d]);
-        }
+    fn append_to<F: Form>(&self, body: &mut Body<F>) {
+        body.begin();
+        F::uint(&mut body.bytes, *self);
     }
 }
 
 impl Field for u64 {
-    ghost value = { ulong };
+    ghost value = { λ _ x. ulong x };
 
     ghost most = { 9 };
 
-    ghost some = { Prim.search rules };
-
-    fn append_to(&self, body: &mut Body) {
-        let x = *self;
-        if x == 0 {
-            body.put(&[0x44]);
-        } else if x < 256 {
-            body.put(&[0x53, x as u8]);
-        } else {
-            let [a, b, c, d, e, f, g, h] = x.to_be_bytes();
-            body.put(&[0x80, a, b, c, d, e, f, g, h]);
-        }
+    fn append_to<F: Form>(&self, body: &mut Body<F>) {
+        body.begin();
+        F::ulong(&mut body.bytes, *self);
     }
 }
 
-// A code, the number of bytes in one byte, and the bytes.
-pub(crate) fn append_sized(body: &mut Body, code: u8, bytes: &[u8])
-    requires { Room (length bytes.now + 2) body.old }
-    ensures made { met body.new ≡ added (met body.old) (code ∷ length bytes.now ∷ bytes.now) }
-    ensures grew { Grew (length bytes.now + 2) body.old body.new }
-{
-    let mut sized = Scratch::new();
-    sized.append(&[code, bytes.len() as u8]);
-    sized.append(bytes);
-    body.put(sized.as_slice());
-}
-
 impl Field for DeliveryTag {
-    ghost value = { tag_value };
+    ghost value = { λ _ t. tag_value t };
 
-    ghost most = { 34 };
+    ghost most = { 37 };
 
-    ghost some = { Prim.search rules };
-
-    fn append_to(&self, body: &mut Body) {
-        let all = self.bytes();
-        append_sized(body, 0xa0, &all[0..self.len()]);
+    fn append_to<F: Form>(&self, body: &mut Body<F>) {
+        let bytes = self.as_slice();
+        body.begin();
+        F::binary(&mut body.bytes, bytes.len() as u8);
+        append(&mut body.bytes, bytes);
     }
 }

@@ -1,17 +1,25 @@
 // Headers: described lists of their fields (Part 2, 2.7.5 and 2.7.6).
+ghost use Rattle.std.specs.Prelude.{◌≡◌};
 ghost use Rattle.amqp.specs.declared.header.Header.TheVariants as header;
 ghost use Rattle.codec.specs.Values.{header_value};
 ghost use Rattle.codec.specs.Bodies.{Encodes};
+ghost use Rattle.codec.specs.Headers.{header_bytes, MeansIn};
+ghost use Rattle.codec.specs.Written.{written, after_write};
+ghost use Rattle.codec.specs.Longer;
 
 use crate::body::Body;
+use crate::descriptor::Descriptor;
+use crate::encoder::Encoder;
 use crate::field::{Absent, Field, Flag};
-use crate::scratch::Scratch;
+use crate::form::Form;
+use crate::scratch::{Scratch, copy_to};
+use amqp::error::MemoryError;
 use amqp::header::{Disposition, Header, Transfer};
 
-fn transfer(h: &Transfer) -> Scratch
-    ensures { Encodes 255 (header_value (header.Transfer h.now)) result }
+fn transfer<F: Form>(h: &Transfer) -> Scratch
+    ensures { Encodes F.Form.form 155 (header_value F.Form.form.terse (header.Transfer h.now)) result }
 {
-    let mut body = Body::new();
+    let mut body = Body::<F>::new();
     h.handle.append_to(&mut body);
     h.delivery_id.append_to(&mut body);
     h.delivery_tag.append_to(&mut body);
@@ -24,13 +32,13 @@ fn transfer(h: &Transfer) -> Scratch
     Flag(h.resume).append_to(&mut body);
     Flag(h.aborted).append_to(&mut body);
     Flag(h.batchable).append_to(&mut body);
-    body.close(0x14)
+    body.close(Descriptor::Transfer)
 }
 
-fn disposition(h: &Disposition) -> Scratch
-    ensures { Encodes 255 (header_value (header.Disposition h.now)) result }
+fn disposition<F: Form>(h: &Disposition) -> Scratch
+    ensures { Encodes F.Form.form 155 (header_value F.Form.form.terse (header.Disposition h.now)) result }
 {
-    let mut body = Body::new();
+    let mut body = Body::<F>::new();
     // The role: a sender's is false.
     false.append_to(&mut body);
     h.first.append_to(&mut body);
@@ -39,14 +47,33 @@ fn disposition(h: &Disposition) -> Scratch
     Flag(h.settled).append_to(&mut body);
     h.state.append_to(&mut body);
     Flag(h.batchable).append_to(&mut body);
-    body.close(0x15)
+    body.close(Descriptor::Disposition)
 }
 
-pub(crate) fn encoded(header: &Header) -> Scratch
-    ensures { Encodes 255 (header_value header.now) result }
+fn encoded<F: Form>(header: &Header) -> Scratch
+    ensures { Encodes F.Form.form 155 (header_value F.Form.form.terse header.now) result }
 {
     match header {
-        Header::Transfer(h) => transfer(h),
-        Header::Disposition(h) => disposition(h),
+        Header::Transfer(h) => transfer::<F>(h),
+        Header::Disposition(h) => disposition::<F>(h),
+    }
+}
+
+// Each form is an encoder.
+impl<F: Form> Encoder for F {
+    ghost bytes = { λ _ h. header_bytes F.form h };
+
+    ghost widest = { λ _ h. Longer.widest F.form F.lawful.sizes h };
+
+    fn size(&self, header: &Header) -> usize {
+        encoded::<F>(header).len()
+    }
+
+    fn write(&self, header: &Header, out: &mut [u8]) -> Result<usize, MemoryError>
+        ensures answer { result ≡ written (header_bytes F.form header.now) out.old }
+        ensures after { out.new ≡ after_write (header_bytes F.form header.now) out.old }
+        ensures meaning { MeansIn F.form.terse (header_bytes F.form header.now) header.now }
+    {
+        copy_to(encoded::<F>(header).as_slice(), out)
     }
 }

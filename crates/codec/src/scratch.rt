@@ -1,53 +1,41 @@
-// A buffer of at most 256 bytes, filled from its start.
-ghost use Rattle.std.specs.Prelude.{◌≡◌, ◌+◌, ◌≤◌, [], ◌++◌, length, take};
+// Bytes of a header as they are made, at most 256.
+ghost use Rattle.std.specs.Prelude.{◌≡◌, ◌+◌, ◌<◌, ◌≤◌, ◌∷◌, ◌++◌, length};
+ghost use Rattle.arrayvec.specs.ArrayVec.{array_vec_len};
 ghost use Rattle.codec.specs.Written.{written, after_write};
 
 use amqp::error::MemoryError;
+use arrayvec::ArrayVec;
 
-#[derive(Drop)]
-pub(crate) struct Scratch {
-    bytes: [u8; 256],
-    len: usize,
-    ghost ok: { len ≤ 256 },
+pub(crate) type Scratch = ArrayVec<u8, 256>;
+
+// Appends bytes that fit.
+pub(crate) fn append(out: &mut Scratch, more: &[u8])
+    requires { array_vec_len out.old + length more.now ≤ 256 }
+    ensures items { out.new.items ≡ out.old.items ++ more.now }
+    ensures len { array_vec_len out.new ≡ array_vec_len out.old + length more.now }
+{
+    out.try_extend_from_slice(more).unwrap();
 }
 
-impl Scratch {
-    pub(crate) fn new() -> Scratch
-        ensures held { take result.len result.bytes ≡ [] }
-        ensures len { result.len ≡ 0 }
-    {
-        Scratch {
-            bytes: [0; 256],
-            len: 0,
-        }
-    }
+// Appends a code, and the bytes that belong to it.
+pub(crate) fn append_coded(out: &mut Scratch, code: u8, more: &[u8])
+    requires { array_vec_len out.old + length more.now < 256 }
+    ensures items { out.new.items ≡ out.old.items ++ code ∷ more.now }
+    ensures len { array_vec_len out.new ≡ array_vec_len out.old + length more.now + 1 }
+{
+    out.push(code);
+    append(out, more);
+}
 
-    pub(crate) fn append(&mut self, more: &[u8])
-        requires { self.old.len + length more.now ≤ 256 }
-        ensures held { take self.new.len self.new.bytes ≡ take self.old.len self.old.bytes ++ more.now }
-        ensures len { self.new.len ≡ self.old.len + length more.now }
-    {
-        let end = self.len + more.len();
-        self.bytes[self.len..end].copy_from_slice(more);
-        self.len = end;
+// Copies the bytes to the front of `out`, or refuses and changes nothing.
+pub(crate) fn copy_to(bytes: &[u8], out: &mut [u8]) -> Result<usize, MemoryError>
+    ensures answer { result ≡ written bytes.now out.old }
+    ensures after { out.new ≡ after_write bytes.now out.old }
+{
+    if out.len() < bytes.len() {
+        return Err(MemoryError::TooShort);
     }
-
-    pub(crate) fn as_slice(&self) -> &[u8]
-        ensures value { result.now ≡ take self.now.len self.now.bytes }
-        ensures len { length result.now ≡ self.now.len }
-    {
-        &self.bytes[0..self.len]
-    }
-
-    // Copies the bytes to the front of `out`, or refuses and changes nothing.
-    pub(crate) fn copy_to(&self, out: &mut [u8]) -> Result<usize, MemoryError>
-        ensures answer { result ≡ written (take self.now.len self.now.bytes) out.old }
-        ensures after { out.new ≡ after_write (take self.now.len self.now.bytes) out.old }
-    {
-        if out.len() < self.len {
-            return Err(MemoryError::TooShort);
-        }
-        out[0..self.len].copy_from_slice(self.as_slice());
-        Ok(self.len)
-    }
+    // By index: of bytes written through `get_mut`, a proof knows only how many they are.
+    out[..bytes.len()].copy_from_slice(bytes);
+    Ok(bytes.len())
 }

@@ -3,12 +3,13 @@
 
 mod run;
 
-use crate::run::{Stop, run};
+use crate::run::run;
+use anyhow::Result;
 use std::io::BufReader;
 use std::process::ExitCode;
 use std::{env, fs};
 
-fn start(rt: &HostRuntime) -> Result<(), Stop> {
+fn start(rt: &HostRuntime) -> Result<()> {
     match env::args(rt)?.nth(1) {
         Some(path) => {
             let file = fs::open(rt, path.as_str())?;
@@ -22,8 +23,8 @@ fn start(rt: &HostRuntime) -> Result<(), Stop> {
 fn main(rt: HostRuntime) -> ExitCode {
     match start(&rt) {
         Ok(()) => ExitCode::SUCCESS,
-        Err(stop) => {
-            let _ = eprintln!(rt; "error: {stop}");
+        Err(error) => {
+            let _ = eprintln!(rt; "error: {error}");
             ExitCode::FAILURE
         }
     }

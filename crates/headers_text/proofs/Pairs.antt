@@ -1,22 +1,54 @@
 -- Pairs of digits and the bytes that they write.
-use Rattle.std.proofs.Common.{◌≡◌, ℕ, ◌+◌, ◌*◌, ◌/◌, ◌%◌, ◌<◌, List, [], ◌∷◌, ◌++◌, length, get_or, take, sym, refl, append_assoc, arith}
-use Rattle.std.proofs.lemmas.List.{take_more, take_all, append-nil}
+use Rattle.std.proofs.Common.{◌≡◌, ℕ, zero, suc, ◌+◌, ◌-◌, ◌^◌, ◌*◌, ◌/◌, ◌%◌, ◌<◌, ◌≤◌, false, List, [], ◌∷◌, ◌++◌, length, get_or, take, drop, refl, append_assoc, arith, rules, Fits, w8}
+use Rattle.std.specs.Fmt.{padded_integral, format_spec, digits}
+use Rattle.std.specs.List.{concat}
+use Rattle.std.specs.Simd.{first_chunks}
+use Rattle.std.proofs.lemmas.Fmt.{hex_byte}
+use Rattle.std.proofs.lemmas.List.{take_more, take_all, take-append-drop, append-nil, length-take-le, length-drop}
+use Rattle.std.proofs.lemmas.List.Folds.{concat-append}
 use Rattle.headers_text.specs.Hex.{glyph, pairs, Pair, Added}
 
 pub pairs_push : (xs : List ℕ) (v : ℕ) → pairs (xs ++ v ∷ []) ≡ pairs xs ++ (glyph (v / 16) ∷ glyph (v % 16) ∷ [])
 pairs_push [] v = refl
 pairs_push (x ∷ xs) v = let ih = pairs_push xs v in cc
 
-pub added_none : (text old : List ℕ) → Added (take (2 * 0) text) old old
-added_none text old = record { bytes = []; written = refl; after = sym (append-nil old) }
+-- one more byte, as `{:02x}` writes it
+pub pairs_more : (bs : List ℕ) (i : ℕ) → i < length bs → Fits w8 (get_or bs i 0) → pairs (take i bs) ++ padded_integral (format_spec 32 0 4 2 (2 ^ 64 - 1)) false [] (digits 16 false (get_or bs i 0)) ≡ pairs (take (i + 1) bs)
+pairs_more bs i lt small =
+    let more = take_more bs i 0 lt in
+    let push = pairs_push (take i bs) (get_or bs i 0) in
+    let two = hex_byte false (get_or bs i 0) (search rules) in
+    cc
 
-pub added_more : (text old mid new : List ℕ) (i v : ℕ) → Added (take (2 * i) text) old mid → 2 * i + 1 < length text → Pair (get_or text (2 * i) 0) (get_or text (2 * i + 1) 0) v → new ≡ mid ++ v ∷ [] → Added (take (2 * (i + 1)) text) old new
-added_more text old mid new i v a lt p e =
-    let one = take_more text (2 * i) 0 (omega arith) in
-    let two = take_more text (2 * i + 1) 0 (omega arith) in
-    let n : 2 * (i + 1) ≡ 2 * i + 1 + 1 = omega arith in
+two_digits : (xs : List ℕ) → length xs ≡ 2 → xs ≡ get_or xs 0 0 ∷ get_or xs 1 0 ∷ []
+two_digits [] e = cc
+two_digits (a ∷ []) e = cc
+two_digits (a ∷ b ∷ []) e = refl
+two_digits (a ∷ b ∷ x ∷ xs) e = absurd (omega arith)
+
+chunk_is_two : (k : ℕ) (xs : List ℕ) (i : ℕ) → 2 * k ≤ length xs → i < k → length (get_or (first_chunks 2 k xs) i []) ≡ 2
+chunk_is_two zero xs i fits lt = absurd (omega arith)
+chunk_is_two (suc k) xs zero fits lt = length-take-le 2 xs (omega arith)
+chunk_is_two (suc k) xs (suc i) fits lt = chunk_is_two k (drop 2 xs) i (omega (arith, length-drop 2 xs)) (omega arith)
+
+chunks_are_all : (k : ℕ) (xs : List ℕ) → length xs ≡ 2 * k → concat (first_chunks 2 k xs) ≡ xs
+chunks_are_all zero [] e = refl
+chunks_are_all zero (x ∷ xs) e = cc
+chunks_are_all (suc k) xs e =
+    let rest = chunks_are_all k (drop 2 xs) (omega (arith, length-drop 2 xs)) in
+    let whole = take-append-drop 2 xs in
+    cc
+
+-- one more chunk
+pub added_more : (text old mid new : List ℕ) (chunks : List (List ℕ)) (i v : ℕ) → chunks ≡ first_chunks 2 (length text / 2) text → i < length chunks → length chunks ≡ length text / 2 → Added (concat (take i chunks)) old mid → Pair (get_or (get_or chunks i []) 0 0) (get_or (get_or chunks i []) 1 0) v → new ≡ mid ++ v ∷ [] → Added (concat (take (i + 1) chunks)) old new
+added_more text old mid new chunks i v are lt len a p e =
+    let chunk = get_or chunks i [] in
+    let more = take_more chunks i [] lt in
+    let join = concat-append (take i chunks) (chunk ∷ []) in
+    let nil = append-nil chunk in
+    let long : length chunk ≡ 2 = rw are (chunk_is_two (length text / 2) text i (omega arith) (omega arith)) in
+    let two = two_digits chunk long in
     let push = pairs_push a.bytes v in
-    let join = append_assoc (take (2 * i) text) (get_or text (2 * i) 0 ∷ []) (get_or text (2 * i + 1) 0 ∷ []) in
     let first = p.first in
     let second = p.second in
     let written = a.written in
@@ -24,8 +56,10 @@ added_more text old mid new i v a lt p e =
     let tail = append_assoc old a.bytes (v ∷ []) in
     record { bytes = a.bytes ++ v ∷ []; written = cc; after = cc }
 
-pub added_all : (text old new : List ℕ) (n : ℕ) → Added (take (2 * n) text) old new → length text ≡ 2 * n → Added text old new
-added_all text old new n a e =
-    let whole = take_all (2 * n) text (omega arith) in
+-- after the last, where none is left over
+pub added_all : (text old new : List ℕ) (chunks : List (List ℕ)) (i : ℕ) → chunks ≡ first_chunks 2 (length text / 2) text → length chunks ≤ i → length text % 2 ≡ 0 → Added (concat (take i chunks)) old new → Added text old new
+added_all text old new chunks i are le even a =
+    let whole = take_all i chunks le in
+    let all = chunks_are_all (length text / 2) text (omega arith) in
     let written = a.written in
     record { bytes = a.bytes; written = cc; after = a.after }

@@ -1,10 +1,11 @@
 -- Bytes as pairs of lower-case hexadecimal digits.
-use Rattle.std.specs.Prelude.{◌≡◌, ℕ, ◌+◌, ◌/◌, ◌%◌, ◌<◌, ◌≤◌, cond, ◌⊎◌, List, [], ◌∷◌, ◌++◌, Ok, Err, Result, nat_lt}
+use Rattle.std.specs.Prelude.{◌≡◌, ℕ, ◌/◌, ◌%◌, ◌<◌, ◌≤◌, ◌⊎◌, false, List, [], ◌∷◌, ◌++◌, Ok, Err, Result}
+use Rattle.std.specs.Fmt.{digit_glyph}
 use Rattle.headers_text.specs.declared.hex.HexFault.{HexFault}
 
 -- the digit of a value below 16
 abbrev pub glyph : ℕ → ℕ
-glyph d = cond (nat_lt d 10) (48 + d) (87 + d)
+glyph d = digit_glyph false d
 
 abbrev pub Digit : ℕ → Type 0
 Digit b = ((48 ≤ b) × (b ≤ 57)) ⊎ ((97 ≤ b) × (b ≤ 102))

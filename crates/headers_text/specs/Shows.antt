@@ -1,34 +1,50 @@
 -- What is printed of a header.
-use Rattle.std.specs.Prelude.{ℕ, Bool, true, false, List, [], ◌∷◌, ◌++◌, Some, None, codes, decimal, Option}
-use Rattle.amqp.specs.States.{condition_number}
-use Rattle.amqp.specs.declared.condition.AmqpError.{AmqpError}
-use Rattle.amqp.specs.declared.state.DeliveryState.{DeliveryState}
-use Rattle.amqp.specs.declared.state.DeliveryState.TheVariants.{Received, Accepted, Rejected, Released, Modified}
+use Rattle.std.specs.Prelude.{ℕ, List, ◌++◌, length, Option, None, Some, codes, decimal, ◌==◌, if◌then◌else◌}
+use Rattle.amqp.specs.declared.tag.DeliveryTag.{DeliveryTag}
+use Rattle.amqp.specs.declared.header.Transfer.{Transfer}
+use Rattle.amqp.specs.declared.header.Disposition.{Disposition}
+use Rattle.amqp.specs.declared.header.Header.{Header}
+use Rattle.amqp.specs.declared.header.Header.TheVariants as header
+use Rattle.amqp.specs.Tags.{tag_bytes}
+use Rattle.amqp.specs.Texts.{truth, state_text}
+use Rattle.headers_text.specs.Hex.{pairs}
 
-abbrev pub truth : Bool → List ℕ
-truth true = codes "yes"
-truth false = codes "no"
+-- the tag's bytes in digits, or a dash
+abbrev pub tag_text : DeliveryTag → List ℕ
+tag_text t = if length (tag_bytes t) == 0 then codes "-" else pairs (tag_bytes t)
 
--- what is printed of a value that may be absent, and what where it is
-abbrev pub or_word : {A : Type 0} → List ℕ → (A → List ℕ) → Option A → List ℕ
-or_word word f None = word
-or_word word f (Some x) = f x
+-- a field that may be absent
+abbrev pub or_none : {A : Type 0} → (A → List ℕ) → Option A → List ℕ
+or_none text None = codes "none"
+or_none text (Some x) = text x
 
--- the number of a condition, 0 for none
-abbrev pub number_of : Option AmqpError → ℕ
-number_of None = 0
-number_of (Some k) = condition_number k
+-- what says which delivery a transfer is of
+abbrev pub delivery_text : Transfer → List ℕ
+delivery_text h =
+    codes "transfer handle=" ++ decimal h.handle
+    ++ codes " id=" ++ or_none decimal h.delivery_id
+    ++ codes " tag=" ++ or_none tag_text h.delivery_tag
+    ++ codes " format=" ++ or_none decimal h.message_format
+    ++ codes " settled=" ++ or_none truth h.settled
 
--- a name, and what stands between brackets after it
-abbrev pub call : List ℕ → List ℕ → List ℕ
-call name inside = name ++ (40 ∷ inside ++ (41 ∷ []))
+abbrev pub flags_text : Transfer → List ℕ
+flags_text h =
+    codes " more=" ++ truth h.more
+    ++ codes " state=" ++ or_none state_text h.state
+    ++ codes " resume=" ++ truth h.resume
+    ++ codes " aborted=" ++ truth h.aborted
+    ++ codes " batchable=" ++ truth h.batchable
 
-abbrev pub both : List ℕ → List ℕ → List ℕ
-both a b = a ++ (44 ∷ b)
+abbrev pub transfer_text : Transfer → List ℕ
+transfer_text h = delivery_text h ++ flags_text h
 
-abbrev pub state : DeliveryState → List ℕ
-state (Received p) = call (codes "received") (both (decimal p.section_number) (decimal p.section_offset))
-state Accepted = codes "accepted"
-state (Rejected e) = call (codes "rejected") (decimal (number_of e))
-state Released = codes "released"
-state (Modified f u) = call (codes "modified") (both (or_word (codes "absent") truth f) (or_word (codes "absent") truth u))
+abbrev pub disposition_text : Disposition → List ℕ
+disposition_text h =
+    codes "disposition first=" ++ decimal h.first
+    ++ codes " settled=" ++ truth h.settled
+    ++ codes " state=" ++ or_none state_text h.state
+    ++ codes " batchable=" ++ truth h.batchable
+
+abbrev pub header_text : Header → List ℕ
+header_text (header.Transfer h) = transfer_text h
+header_text (header.Disposition h) = disposition_text h

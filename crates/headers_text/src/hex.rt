@@ -1,8 +1,11 @@
 // Bytes as pairs of lower-case hexadecimal digits.
-ghost use Rattle.std.specs.Prelude.{◌≡◌, ℕ, ◌+◌, ◌-◌, ◌*◌, ◌<◌, ◌≤◌, ◌++◌, length, IfSome, MatchOption};
+ghost use Rattle.std.specs.Prelude.{◌≡◌, ℕ, ◌+◌, ◌-◌, ◌*◌, ◌%◌, ◌<◌, ◌≤◌, ◌↔◌, ◌++◌, length, IfSome, MatchOption, IsErrOf};
 ghost use Rattle.headers_text.specs.Hex.{glyph, pairs, Digit, Pair, Decoded};
+ghost use Rattle.headers_text.specs.declared.hex.HexFault.TheVariants.{Odd, Memory};
 
-// The value of one digit.
+use std::alloc::AllocFailed;
+
+// The value of one digit. The kit's crate `hex` reads upper case too, which here no digit is.
 fn digit(b: u8) -> Option<u8>
     ensures { MatchOption result (Digit b → ⊥) (λ d. (d < 16) × (b ≡ glyph d)) }
 {
@@ -16,35 +19,35 @@ fn digit(b: u8) -> Option<u8>
 fn pair(high: u8, low: u8) -> Option<u8>
     ensures { IfSome result (λ v. Pair high low v) }
 {
-    match (digit(high), digit(low)) {
-        (Some(h), Some(l)) => Some(h * 16 + l),
-        _ => None,
-    }
+    Some(digit(high)? * 16 + digit(low)?)
 }
 
-#[derive(Clone, Copy)]
+#[derive(Clone, Copy, PartialEq, Eq)]
 pub enum HexFault {
     Odd,
     NoDigit,
     Memory,
 }
 
+impl<T: Drop> From<AllocFailed<T>> for HexFault {
+    ghost from_gives = { λ _ e. e ≡ Memory };
+
+    fn from(_e: AllocFailed<T>) -> HexFault {
+        HexFault::Memory
+    }
+}
+
 // Adds the bytes that the digits write.
 pub fn decode(text: &[u8], into: &mut Vec<u8>) -> Result<(), HexFault>
-    ensures { Decoded result text.now into.old.items into.new.items }
+    ensures added { Decoded result text.now into.old.items into.new.items }
+    ensures odd { IsErrOf result Odd ↔ (length text.now % 2 ≡ 1) }
 {
-    let n = text.len() / 2;
-    if text.len() != 2 * n {
+    let (digits, odd) = text.as_chunks::<2>();
+    if !odd.is_empty() {
         return Err(HexFault::Odd);
     }
-    for i in 0..n {
-        match pair(text[2 * i], text[2 * i + 1]) {
-            Some(v) => match into.push(v) {
-                Ok(()) => {}
-                Err(_) => return Err(HexFault::Memory),
-            },
-            None => return Err(HexFault::NoDigit),
-        }
+    for [high, low] in digits {
+        into.push(pair(*high, *low).ok_or(HexFault::NoDigit)?)?;
     }
     Ok(())
 }

@@ -1,14 +1,14 @@
 -- The frames of a ring: one more after a put, one fewer after a take.
-use Rattle.std.proofs.Common.{◌≡◌, ℕ, suc, ◌+◌, ◌-◌, ◌*◌, ◌<◌, ◌≤◌, ◌≢◌, List, [], ◌∷◌, ◌++◌, length, get_or, take, drop, set, Some, Ok, Err, sym, ap, ◌∙◌, ⊎_elim, mod-lt, mod-eq_of_lt, arith}
+use Rattle.std.proofs.Common.{◌≡◌, ℕ, suc, ◌+◌, ◌-◌, ◌*◌, ◌<◌, ◌≤◌, ◌≢◌, List, [], ◌∷◌, ◌++◌, length, get_or, take, drop, set, Some, Ok, Err, sym, refl, ap, ◌∙◌, ⊎_elim, mod-lt, mod-eq_of_lt, arith}
 use lib.Seq.{paste}
-use Rattle.std.proofs.lemmas.List.{length-take, length-drop, get_or-set_same, get_or-set_other, get_or_read_under}
+use Rattle.std.proofs.lemmas.List.{take_at, length-take, length-drop, get_or-set_same, get_or-set_other, get_or_read_under}
 use Rattle.std.proofs.lemmas.List.FromFn.{map-range_with_len_more, length-map-range_with_len}
 use Rattle.std.proofs.lemmas.Bool.{cases_lt, lt-ltb, le-ltb}
 use Rattle.amqp.specs.declared.error.MemoryError.TheVariants.{TooShort}
 use Rattle.sink.specs.Frames.{Frame, frame, Model}
 use Rattle.queue.specs.declared.place.Place.{Place}
-use Rattle.queue.specs.Rings.{blank, slot, place_at, Sized, frame_in, frames_in}
-use Rattle.queue.specs.Reading.{taken, taken_of, freed, left, read_into}
+use Rattle.queue.specs.Rings.{blank, slot, place_at, Sized, frame_of, frame_in, frames_in}
+use Rattle.queue.specs.Reading.{taken, place_of, freed, left, read_into}
 use Rattle.queue.proofs.Slots.{slots_apart, slot_next, apart, within, kept_below, kept_above, written, map_counting_same, map_counting_shift}
 
 pub length_frames : (ps : List Place) (bs : List ℕ) (w k head used : ℕ) → length (frames_in ps bs w k head used) ≡ used
@@ -64,10 +64,6 @@ rest_sized ps k w head used z i l = rw (slot_next k head i) at (z (i + 1) (omega
 first_slot : (k head : ℕ) → head < k → slot k head 0 ≡ head
 first_slot k head l = let e : head + 0 ≡ head = omega arith in rw e (mod-eq_of_lt l)
 
--- the frame that a place and the front of its bytes make
-abbrev pub framed : Place → (at : ℕ) → List ℕ → Frame
-framed x at bs = frame x.kind x.handle x.header (take x.size (drop at bs))
-
 oldest_first : (ps : List Place) (bs : List ℕ) (w k head used : ℕ) → head < k → 0 < used → frames_in ps bs w k head used ≡ frame_in ps bs w head ∷ frames_in ps bs w k (slot k head 1) (used - 1)
 oldest_first ps bs w k head used l p =
     let f : ℕ → Frame = λ i. frame_in ps bs w (slot k head i) in
@@ -80,9 +76,9 @@ oldest_first ps bs w k head used l p =
 
 -- the oldest frame, at the place x: what waits behind it, and where its bytes lie
 pub record Oldest (ps : List Place) (bs : List ℕ) (w k head used : ℕ) (x : Place) : Type 0 where
-  pub first : frames_in ps bs w k head used ≡ framed x (head * w) bs ∷ frames_in ps bs w k (slot k head 1) (used - 1)
+  pub first : frames_in ps bs w k head used ≡ frame_of x (drop (head * w) bs) ∷ frames_in ps bs w k (slot k head 1) (used - 1)
   pub inside : head * w + x.size ≤ length bs
-  pub len : length (framed x (head * w) bs).payload ≡ x.size
+  pub len : length (frame_of x (drop (head * w) bs)).payload ≡ x.size
 
 pub oldest : (ps : List Place) (bs : List ℕ) (w k head used : ℕ) (x : Place) → k ≡ length ps → head ≤ k - 1 → used ≤ k → (used ≡ 0 → ⊥) → k * w ≤ length bs → Sized ps k w head used → x ≡ get_or ps head x → Oldest ps bs w k head used x
 oldest ps bs w k head used x kl hk uk some room z read =
@@ -92,14 +88,14 @@ oldest ps bs w k head used x kl hk uk some room z read =
     let fits : x.size ≤ w = omega (arith, ap (λ y. y.size) e, ap (λ s. (place_at ps s).size) (first_slot k head l), z 0 p) in
     let i = within head k w x.size (length bs) l room fits in
     record {
-      first = oldest_first ps bs w k head used l p ∙ ap (λ y. framed y (head * w) bs ∷ frames_in ps bs w k (slot k head 1) (used - 1)) (sym e);
+      first = oldest_first ps bs w k head used l p ∙ ap (λ y. frame_of y (drop (head * w) bs) ∷ frames_in ps bs w k (slot k head 1) (used - 1)) (sym e);
       inside = i;
       len = omega (arith, length-take x.size (drop (head * w) bs), length-drop (head * w) bs, i);
     }
 
 -- what the reader says, leaves and writes where the oldest frame fits its memory, and where it does not
 pub record Read (m : Model) (f : Frame) (behind : List Frame) (out : List ℕ) : Type 0 where
-  pub answer : taken m.waiting (length out) ≡ Ok (Some (taken_of f))
+  pub answer : taken m.waiting (length out) ≡ Ok (Some (place_of f))
   pub after : left m (length out) ≡ freed m behind
   pub read : read_into m.waiting out ≡ f.payload ++ drop (length f.payload) out
 
@@ -121,3 +117,7 @@ pub short : (m : Model) (f : Frame) (behind : List Frame) (out : List ℕ) → m
 short m f behind out e h =
     let t = lt-ltb (length out) (length f.payload) h in
     record { answer = rw (e, t); after = rw (e, t); read = rw (e, t) }
+
+-- where the oldest frame was taken, the place that comes back makes it again of what the reader's memory holds
+pub frame_back : (f : Frame) (behind : List ℕ) → frame_of (place_of f) (f.payload ++ behind) ≡ f
+frame_back f behind = let p = take_at f.payload behind (length f.payload) refl in rw p

@@ -3,16 +3,16 @@ use Rattle.std.specs.Prelude.{ℕ, ◌+◌, cond, List, [], ◌∷◌, ◌++◌,
 use Rattle.amqp.specs.declared.error.MemoryError.{MemoryError}
 use Rattle.amqp.specs.declared.error.MemoryError.TheVariants.{TooShort}
 use Rattle.sink.specs.Frames.{Frame, Model}
-use Rattle.queue.specs.declared.queue.reading.Taken.{Taken}
+use Rattle.queue.specs.declared.place.Place.{Place}
 
--- a frame as the reader gets it
-abbrev pub taken_of : Frame → Taken
-taken_of f = record { kind = f.kind; handle = f.handle; header = f.header; len = length f.payload }
+-- what the reader gets of a frame besides its payload
+abbrev pub place_of : Frame → Place
+place_of f = record { kind = f.kind; handle = f.handle; header = f.header; size = length f.payload }
 
--- the oldest frame, none, or a refusal where its payload does not fit `room` bytes
-abbrev pub taken : List Frame → (room : ℕ) → Result (Option Taken) MemoryError
+-- of the oldest frame, none, or a refusal where its payload does not fit `room` bytes
+abbrev pub taken : List Frame → (room : ℕ) → Result (Option Place) MemoryError
 taken [] room = Ok None
-taken (f ∷ fs) room = cond (nat_lt room (length f.payload)) (Err TooShort) (Ok (Some (taken_of f)))
+taken (f ∷ fs) room = cond (nat_lt room (length f.payload)) (Err TooShort) (Ok (Some (place_of f)))
 
 -- the sink with one place more, and only these frames
 abbrev pub freed : Model → List Frame → Model

@@ -26,9 +26,13 @@ place_at ps s = slice_index_or ps s blank
 abbrev pub Sized : List Place → (k widest head used : ℕ) → Type 0
 Sized ps k widest head used = (i : ℕ) → i < used → (place_at ps (slot k head i)).size ≤ widest
 
+-- the frame that a place holds, whose payload is the front of these bytes
+abbrev pub frame_of : Place → List ℕ → Frame
+frame_of x bytes = frame x.kind x.handle x.header (take x.size bytes)
+
 -- the frame at a place: what the place holds, and the front of its bytes
 abbrev pub frame_in : List Place → List ℕ → (widest s : ℕ) → Frame
-frame_in ps bs widest s = frame (place_at ps s).kind (place_at ps s).handle (place_at ps s).header (take (place_at ps s).size (drop (s * widest) bs))
+frame_in ps bs widest s = frame_of (place_at ps s) (drop (s * widest) bs)
 
 -- the frames that wait, oldest first
 abbrev pub frames_in : List Place → List ℕ → (widest k head used : ℕ) → List Frame

@@ -1,17 +1,19 @@
 // A place of a queue.
 ghost use Rattle.std.specs.Prelude.{◌≡◌};
-ghost use Rattle.queue.specs.Rings.{blank};
+ghost use Rattle.sink.specs.Frames.{waiting_of};
+ghost use Rattle.queue.specs.Rings.{blank, frame_of};
 
 use amqp::header::{Disposition, FrameKind, Header};
+use sink::frame::Frame;
 
-// What a place holds of its frame besides the payload, which lies in the queue's bytes.
+// What a place holds of its frame besides the payload, which lies in the queue's bytes, or in a reader's memory.
 #[derive(Clone, Copy)]
 pub struct Place {
-    pub(crate) kind: FrameKind,
-    pub(crate) handle: u32,
-    pub(crate) header: Header,
+    pub kind: FrameKind,
+    pub handle: u32,
+    pub header: Header,
     // How many bytes the payload has.
-    pub(crate) size: usize,
+    pub size: usize,
 }
 
 impl Place {
@@ -30,6 +32,18 @@ impl Place {
             handle: 0,
             header,
             size: 0,
+        }
+    }
+
+    // The frame, with the payload at the front of `memory`, as far as that reaches.
+    pub fn frame<'m>(&self, memory: &'m [u8]) -> Frame<'m>
+        ensures { waiting_of result ≡ frame_of self.now memory.now }
+    {
+        Frame {
+            kind: self.kind,
+            handle: self.handle,
+            header: self.header,
+            payload: &memory[..self.size.min(memory.len())],
         }
     }
 }

@@ -1,3 +1,2 @@
-pub mod Making
 pub mod Attaching
 pub mod Sending

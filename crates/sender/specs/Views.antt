@@ -1,18 +1,17 @@
 -- What a sender link in its lent memory holds.
-use Rattle.std.specs.Prelude.{ℕ, Ok, Err, Result}
-use Rattle.amqp.specs.declared.error.MakeError.{MakeError}
+use Rattle.std.specs.Prelude.{ℕ}
 use Rattle.unsettled.specs.Tables.{held, room}
 use Rattle.unsettled.specs.Worklists.{items, space}
 use Rattle.link.specs.declared.settings.Settings.{Settings}
 use Rattle.link.specs.Seats.{seated}
 use Rattle.link.specs.Views.{View, Rooms}
-use Rattle.sender.specs.declared.sender_link.SenderLink.{SenderLink}
+use Rattle.sender.specs.declared.sender_link.SenderLink.TheInside.{Inside}
 
 abbrev pub rooms_of : (table resume resend : ℕ) → Rooms
 rooms_of table resume resend = record { table = table; resume = resume; resend = resend }
 
-abbrev pub view : SenderLink → View
-view l =
+abbrev pub view_of : Inside → View
+view_of l =
     record {
       state = l.local_state;
       output = l.output_handle;
@@ -23,10 +22,6 @@ view l =
       rooms = rooms_of (room l.unsettled) (space l.resume) (space l.resend);
       seats = seated l.seats;
     }
-
-abbrev pub viewed : Result SenderLink MakeError → Result View MakeError
-viewed (Ok l) = Ok (view l)
-viewed (Err e) = Err e
 
 abbrev pub with_settings : Settings → View → View
 with_settings s v =

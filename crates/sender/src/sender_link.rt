@@ -4,6 +4,7 @@ use link::resumption::ResumingDelivery;
 use link::seat::Seats;
 use link::settings::Settings;
 use link::state::LinkState;
+use std::marker::Model;
 use unsettled::map::UnsettledMap;
 use unsettled::message::UnsettledMessage;
 use unsettled::slot::Slot;
@@ -30,4 +31,15 @@ pub struct SenderLink<'a> {
     // Deliveries that are to be sent again.
     resend: Worklist<'a, Slot<UnsettledMessage>>,
     seats: Seats<'a>,
+}
+
+// What callers see of a link: what it holds, without the memory that holds it.
+impl<'a> Model for SenderLink<'a> {
+    ghost use Rattle.link.specs.Views.{View};
+
+    ghost Value = { View };
+
+    ghost use Rattle.sender.specs.Views.{view_of};
+
+    ghost view = { view_of };
 }

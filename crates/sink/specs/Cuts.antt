@@ -1,6 +1,6 @@
 -- How a message is cut into frames.
-use Rattle.std.specs.Prelude.{◌≡◌, ℕ, zero, suc, ◌+◌, ◌-◌, ◌*◌, ◌/◌, ◌≤◌, min, Bool, List, map, length, take, drop, None, Option, Result, nat_lt}
-use Rattle.std.specs.List.{range_with_len, flat_map, AllByRecursion}
+use Rattle.std.specs.Prelude.{All, ◌≡◌, ℕ, zero, suc, ◌+◌, ◌-◌, ◌*◌, ◌/◌, ◌≤◌, min, Bool, List, map, length, take, drop, None, Option, Result, nat_lt}
+use Rattle.std.specs.List.{range_with_len, flat_map}
 use Rattle.amqp.specs.declared.header.Transfer.{Transfer as Transferring}
 use Rattle.amqp.specs.declared.header.Header.{Header}
 use Rattle.amqp.specs.declared.header.Header.TheVariants.{Transfer, Disposition}
@@ -49,7 +49,7 @@ Fits bytes size f = (id : Option ℕ) → length (bytes (with_id id f.header)) +
 -- what the frames of a message carry: the payloads in order are the message, and each frame fits
 pub record Carries (bytes : Header → List ℕ) (size : ℕ) (msg : List ℕ) (frames : List Frame) : Type 0 where
   pub whole : flat_map payload_of frames ≡ msg
-  pub fits : AllByRecursion (Fits bytes size) frames
+  pub fits : All (Fits bytes size) frames
 
 -- what a sink refuses of a message: all its frames or none
 abbrev pub split_fault : Model → List ℕ → (share : ℕ) → Option SinkError

@@ -1,9 +1,10 @@
 -- What a sink means, and what a put answers.
-use Rattle.std.specs.Prelude.{◌≡◌, ℕ, ◌+◌, ◌≤◌, Bool, true, false, List, ◌++◌, Some, None, Ok, Err, Option, Result, nat_lt}
+use Rattle.std.specs.Prelude.{◌≡◌, ℕ, ◌+◌, ◌≤◌, Bool, true, false, List, ◌++◌, length, Some, None, Ok, Err, Option, Result, nat_lt}
 use Rattle.amqp.specs.declared.header.Header.{Header}
 use Rattle.amqp.specs.declared.header.FrameKind.{FrameKind}
 use Rattle.amqp.specs.declared.stop.SessionStopReason.{SessionStopReason}
 use Rattle.amqp.specs.declared.error.SinkError.{SinkError}
+use Rattle.sink.specs.declared.frame.Frame.{Frame as Given}
 use Rattle.amqp.specs.declared.error.SinkError.TheVariants.{SessionStopped, PayloadTooWide, SinkFull}
 
 -- a frame: its kind, the input handle, the header and the payload
@@ -15,6 +16,10 @@ pub record Frame : Type 0 where
 
 abbrev pub frame : FrameKind → ℕ → Header → List ℕ → Frame
 frame k n h p = record { kind = k; handle = n; header = h; payload = p }
+
+-- what a program's frame is as one that waits
+abbrev pub waiting_of : Given → Frame
+waiting_of f = frame f.kind f.handle f.header f.payload.now
 
 -- what is refused, in this order: a stopped sink, a part too wide, too few places
 abbrev pub refused : Option SessionStopReason → Bool → Bool → Option SinkError
@@ -41,6 +46,10 @@ pub record Model : Type 0 where
 
 abbrev pub fault_at : Model → (width count : ℕ) → Option SinkError
 fault_at m width count = fault_of m.stopped m.widest m.vacancy width count
+
+-- the fault of putting this one frame
+abbrev pub put_fault : Model → Given → Option SinkError
+put_fault m f = fault_at m (length f.payload.now) 1
 
 -- from `a` to `b` these frames, `count` of them, joined the end
 pub record Grown (a b : Model) (frames : List Frame) (count : ℕ) : Type 0 where

@@ -1,9 +1,9 @@
 // What a sink is: every implementation shows the meaning that is stated here.
-ghost use Rattle.std.specs.Prelude.{◌≡◌, [], ◌∷◌, length};
-ghost use Rattle.sink.specs.Frames.{frame, Model, After, fault_at, answer};
+ghost use Rattle.std.specs.Prelude.{◌≡◌, [], ◌∷◌};
+ghost use Rattle.sink.specs.Frames.{waiting_of, Model, After, fault_at, put_fault, answer};
 
+use crate::frame::Frame;
 use amqp::error::SinkError;
-use amqp::header::{FrameKind, Header};
 use amqp::stop::SessionStopReason;
 
 pub trait Sink {
@@ -11,15 +11,9 @@ pub trait Sink {
     ghost model: { Self → Model };
 
     // The frame joins the end of those that wait.
-    fn put(
-        &mut self,
-        kind: FrameKind,
-        handle: u32,
-        header: &Header,
-        payload: &[u8],
-    ) -> Result<(), SinkError>
-        ensures answer { result ≡ answer (fault_at (model self.old) (length payload.now) 1) }
-        ensures after { After (fault_at (model self.old) (length payload.now) 1) (model self.old) (model self.new) (frame kind handle header.now payload.now ∷ []) 1 };
+    fn put(&mut self, frame: Frame<'_>) -> Result<(), SinkError>
+        ensures answer { result ≡ answer (put_fault (model self.old) frame.entry) }
+        ensures after { After (put_fault (model self.old) frame.entry) (model self.old) (model self.new) (waiting_of frame.entry ∷ []) 1 };
 
     fn vacancy(&self) -> usize
         ensures { result ≡ (model self.now).vacancy };

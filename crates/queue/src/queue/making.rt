@@ -22,10 +22,9 @@ pub struct Unmade {
 fn suffices(places: usize, bytes: usize, widest: usize) -> bool
     ensures { result ≡ nat_le (places * widest) bytes }
 {
-    match places.checked_mul(widest) {
-        Some(needed) => needed <= bytes,
-        None => false,
-    }
+    places
+        .checked_mul(widest)
+        .is_some_and(|needed| needed <= bytes)
 }
 
 impl Queue {

@@ -1,14 +1,13 @@
 // Putting frames, which a stop ends.
 ghost use Rattle.std.specs.Prelude.{◌≡◌, ◌<◌, ◌≤◌, [], ◌∷◌, length, vec_len};
-ghost use Rattle.sink.specs.Frames.{frame, Grown};
+ghost use Rattle.sink.specs.Frames.{waiting_of, Grown};
 ghost use Rattle.queue.specs.Queues.{model_of, stopped_by};
 
 use super::Queue;
-use super::ring::slot_at;
 use crate::place::Place;
 use amqp::error::SinkError;
-use amqp::header::{FrameKind, Header};
 use amqp::stop::SessionStopReason;
+use sink::frame::Frame;
 use sink::sink::Sink;
 
 impl Queue {
@@ -20,19 +19,20 @@ impl Queue {
     }
 
     // Fills the first free place.
-    fn store(&mut self, kind: FrameKind, handle: u32, header: &Header, payload: &[u8])
+    fn store(&mut self, frame: Frame<'_>)
         requires place { self.old.used < vec_len self.old.places }
-        requires narrow { length payload.now ≤ self.old.widest }
-        ensures { Grown (model_of self.old) (model_of self.new) (frame kind handle header.now payload.now ∷ []) 1 }
+        requires narrow { length frame.payload.now ≤ self.old.widest }
+        ensures { Grown (model_of self.old) (model_of self.new) (waiting_of frame.entry ∷ []) 1 }
     {
-        let s = slot_at(self.places.len(), self.head, self.used);
+        let s = self.slot_at(self.used);
         let at = s * self.widest;
-        self.bytes[at..at + payload.len()].copy_from_slice(payload);
+        let size = frame.payload.len();
+        self.bytes[at..at + size].copy_from_slice(frame.payload);
         self.places[s] = Place {
-            kind,
-            handle,
-            header: *header,
-            size: payload.len(),
+            kind: frame.kind,
+            handle: frame.handle,
+            header: frame.header,
+            size,
         };
         self.used += 1;
     }
@@ -41,23 +41,18 @@ impl Queue {
 impl Sink for Queue {
     ghost model = { model_of };
 
-    fn put(
-        &mut self,
-        kind: FrameKind,
-        handle: u32,
-        header: &Header,
-        payload: &[u8],
-    ) -> Result<(), SinkError> {
+    fn put(&mut self, frame: Frame<'_>) -> Result<(), SinkError> {
+        // `ask_room` asks the same, but a call of it here did not prove, since it leads back to this impl.
         if let Some(reason) = self.stop {
             return Err(SinkError::SessionStopped(reason));
         }
-        if payload.len() > self.widest {
+        if frame.payload.len() > self.widest {
             return Err(SinkError::PayloadTooWide);
         }
         if self.used == self.places.len() {
             return Err(SinkError::SinkFull);
         }
-        self.store(kind, handle, header, payload);
+        self.store(frame);
         Ok(())
     }
 

@@ -4,23 +4,14 @@ ghost use Rattle.queue.specs.Queues.{model_of};
 ghost use Rattle.queue.specs.Reading.{taken, left, read_into};
 
 use super::Queue;
-use super::ring::slot_at;
+use crate::place::Place;
 use amqp::error::MemoryError;
-use amqp::header::{FrameKind, Header};
-
-// A frame that was taken. Its payload is the first `len` bytes of the reader's memory.
-#[derive(Clone, Copy)]
-pub struct Taken {
-    pub kind: FrameKind,
-    pub handle: u32,
-    pub header: Header,
-    pub len: usize,
-}
 
 impl Queue {
-    // Takes the oldest frame, if one waits: its payload goes to the front of `out`, and its place is free again.
-    // Where `out` is shorter than the payload, the frame stays.
-    pub fn take(&mut self, out: &mut [u8]) -> Result<Option<Taken>, MemoryError>
+    // Takes the oldest frame, if one waits: its payload goes to the front of `out`, and the place that held it is free
+    // again. Where `out` is shorter than the payload, the frame stays.
+    // A frame that borrows `out` did not prove: no clause then says what stands in `out` past its payload.
+    pub fn take(&mut self, out: &mut [u8]) -> Result<Option<Place>, MemoryError>
         ensures answer { result ≡ taken (model_of self.old).waiting (length out.old) }
         ensures after { model_of self.new ≡ left (model_of self.old) (length out.old) }
         ensures read { out.new ≡ read_into (model_of self.old).waiting out.old }
@@ -29,19 +20,14 @@ impl Queue {
             return Ok(None);
         }
         let place = self.places[self.head];
-        let len = place.size;
-        if out.len() < len {
+        let size = place.size;
+        if out.len() < size {
             return Err(MemoryError::TooShort);
         }
         let at = self.head * self.widest;
-        out[..len].copy_from_slice(&self.bytes[at..at + len]);
-        self.head = slot_at(self.places.len(), self.head, 1);
+        out[..size].copy_from_slice(&self.bytes[at..at + size]);
+        self.head = self.slot_at(1);
         self.used -= 1;
-        Ok(Some(Taken {
-            kind: place.kind,
-            handle: place.handle,
-            header: place.header,
-            len,
-        }))
+        Ok(Some(place))
     }
 }

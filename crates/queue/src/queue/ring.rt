@@ -1,14 +1,17 @@
 // Going round the ring.
-ghost use Rattle.std.specs.Prelude.{◌≡◌, ◌<◌, ◌≤◌};
+ghost use Rattle.std.specs.Prelude.{◌≡◌, ◌<◌, ◌≤◌, vec_len};
 ghost use Rattle.queue.specs.Rings.{slot};
 
-// The place that is i further than `head`.
-pub(super) fn slot_at(places: usize, head: usize, i: usize) -> usize
-    requires head { head < places }
-    requires far { i ≤ places }
-    ensures value { result ≡ slot places head i }
-    ensures inside { result < places }
-{
-    let to_end = places - head;
-    if i < to_end { head + i } else { i - to_end }
+use super::Queue;
+
+impl Queue {
+    // The place that is i further than the oldest frame's.
+    pub(super) fn slot_at(&self, i: usize) -> usize
+        requires some { 0 < vec_len self.now.places }
+        requires far { i ≤ vec_len self.now.places }
+        ensures value { result ≡ slot (vec_len self.now.places) self.now.head i }
+        ensures inside { result < vec_len self.now.places }
+    {
+        (self.head + i) % self.places.len()
+    }
 }

@@ -4,7 +4,7 @@ ghost use Rattle.link.specs.Attaching.{attach_answer, attach_refusal, attached_s
 ghost use Rattle.link.specs.Calls.{Attach as AttachCall, step};
 ghost use Rattle.link.specs.Rows.{gated};
 ghost use Rattle.runs.specs.Safe.{SafeAfter};
-ghost use Rattle.sender.specs.Views.{view, with_settings};
+ghost use Rattle.sender.specs.Views.{with_settings};
 
 use super::SenderLink;
 use amqp::error::SenderAttachError;
@@ -19,7 +19,7 @@ const MOST_PAIRS: usize = 1024;
 impl<'a> SenderLink<'a> {
     // Only refuses: the state that the link moves to, or what stands against the move.
     fn may_attach(&self, attach: &Attach<'_>, pool: &[u8]) -> Result<LinkState, SenderAttachError>
-        ensures { result ≡ gated (attach_refusal (view self.now) attach.now pool.now) (attached_state (view self.now) attach.now) }
+        ensures { result ≡ gated (attach_refusal self.now attach.now pool.now) (attached_state self.now attach.now) }
     {
         let Some(state) = self
             .local_state
@@ -41,8 +41,8 @@ impl<'a> SenderLink<'a> {
 
     // Takes over what the peer says, as far as the two ends agree.
     fn negotiate(&mut self, attach: &Attach<'_>) -> Result<(), SenderAttachError>
-        ensures answer { result ≡ gated (late_refusal (view self.old) attach.now) tt }
-        ensures link { view self.new ≡ with_settings (attached_settings (view self.old) attach.now) (view self.old) }
+        ensures answer { result ≡ gated (late_refusal self.old attach.now) tt }
+        ensures link { self.new ≡ with_settings (attached_settings self.old attach.now) self.old }
     {
         if !attach.has_target {
             return Err(SenderAttachError::IncomingTargetIsNone);
@@ -57,7 +57,7 @@ impl<'a> SenderLink<'a> {
 
     // What the two maps of unsettled deliveries come to.
     fn exchange(&self, attach: &Attach<'_>) -> SenderAttachExchange
-        ensures { result ≡ exchanged (view self.now).state (view self.now) attach.now }
+        ensures { result ≡ exchanged self.now.state self.now attach.now }
     {
         if self.unsettled.count() == 0 && attach.unsettled.len() == 0 {
             SenderAttachExchange::Complete
@@ -74,20 +74,9 @@ impl<'a> SenderLink<'a> {
         attach: &Attach<'_>,
         pool: &[u8],
     ) -> Result<SenderAttachExchange, SenderAttachError>
-        ensures answer { result ≡ attach_answer (view self.old) attach.now pool.now }
-        ensures link { view self.new ≡ step (view self.old) (AttachCall attach.now pool.now) }
-        ensures no_delivery_lost_or_ended_twice { SafeAfter (view self.old) (AttachCall attach.now pool.now) (view self.new) }
-    {
-        self.on_incoming_attach(attach, pool)
-    }
-
-    fn on_incoming_attach(
-        &mut self,
-        attach: &Attach<'_>,
-        pool: &[u8],
-    ) -> Result<SenderAttachExchange, SenderAttachError>
-        ensures answer { result ≡ attach_answer (view self.old) attach.now pool.now }
-        ensures link { view self.new ≡ step (view self.old) (AttachCall attach.now pool.now) }
+        ensures answer { result ≡ attach_answer self.old attach.now pool.now }
+        ensures link { self.new ≡ step self.old (AttachCall attach.now pool.now) }
+        ensures no_delivery_lost_or_ended_twice { SafeAfter self.old (AttachCall attach.now pool.now) self.new }
     {
         self.local_state = self.may_attach(attach, pool)?;
         self.input_handle = Some(attach.handle);

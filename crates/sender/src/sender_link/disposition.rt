@@ -1,11 +1,10 @@
 // The peer's disposition of a delivery.
 ghost use Rattle.std.specs.Prelude.{◌≡◌, true, false, Some};
 ghost use Rattle.link.specs.Calls.{Disposition, step};
-ghost use Rattle.link.specs.Disposing.{settle_back, settles_second, disposed_as};
+ghost use Rattle.link.specs.Disposing.{settle_back, disposed_as};
 ghost use Rattle.link.specs.Turns.{landed};
 ghost use Rattle.unsettled.specs.Tables.{look};
 ghost use Rattle.runs.specs.Safe.{SafeAfter};
-ghost use Rattle.sender.specs.Views.{view};
 
 use super::SenderLink;
 use amqp::mode::ReceiverSettleMode;
@@ -14,19 +13,10 @@ use amqp::tag::DeliveryTag;
 use link::delivery::{Outcome, is_terminal, record_state};
 use unsettled::message::UnsettledMessage;
 
-fn is_second(mode: ReceiverSettleMode) -> bool
-    ensures { result ≡ settles_second mode }
-{
-    match mode {
-        ReceiverSettleMode::First => false,
-        ReceiverSettleMode::Second => true,
-    }
-}
-
 impl<'a> SenderLink<'a> {
     // The delivery of a tag ends with the state told, or with the outcome that was told before.
     fn end(&mut self, tag: &DeliveryTag, entry: &UnsettledMessage, state: Option<DeliveryState>)
-        ensures { view self.new ≡ landed (view self.old) (disposed_as true tag.now state entry.now (view self.old)) }
+        ensures { self.new ≡ landed self.old (disposed_as true tag.now state entry.now self.old) }
     {
         let _entry = self.unsettled.swap_remove(tag);
         self.seats.tell(
@@ -37,8 +27,8 @@ impl<'a> SenderLink<'a> {
 
     // The state of a tag's delivery is recorded.
     fn record(&mut self, tag: &DeliveryTag, entry: &UnsettledMessage, state: Option<DeliveryState>)
-        requires { look tag.now (view self.old).held.table ≡ Some entry.now }
-        ensures { view self.new ≡ landed (view self.old) (disposed_as false tag.now state entry.now (view self.old)) }
+        requires { look tag.now self.old.held.table ≡ Some entry.now }
+        ensures { self.new ≡ landed self.old (disposed_as false tag.now state entry.now self.old) }
     {
         let recorded = UnsettledMessage {
             state: record_state(entry.state, state),
@@ -48,17 +38,14 @@ impl<'a> SenderLink<'a> {
     }
 
     fn settle(&mut self, tag: &DeliveryTag, settled: bool, state: Option<DeliveryState>)
-        ensures { view self.new ≡ step (view self.old) (Disposition tag.now settled state) }
+        ensures { self.new ≡ step self.old (Disposition tag.now settled state) }
     {
-        match self.unsettled.get(tag) {
-            Some(entry) => {
-                if settled || is_terminal(state) {
-                    self.end(tag, &entry, state);
-                } else {
-                    self.record(tag, &entry, state);
-                }
+        if let Some(entry) = self.unsettled.get(tag) {
+            if settled || is_terminal(state) {
+                self.end(tag, &entry, state);
+            } else {
+                self.record(tag, &entry, state);
             }
-            None => {}
         }
     }
 
@@ -69,23 +56,13 @@ impl<'a> SenderLink<'a> {
         settled: bool,
         state: Option<DeliveryState>,
     ) -> bool
-        ensures answer { result ≡ settle_back (view self.old) settled state }
-        ensures link { view self.new ≡ step (view self.old) (Disposition tag.now settled state) }
-        ensures no_delivery_lost_or_ended_twice { SafeAfter (view self.old) (Disposition tag.now settled state) (view self.new) }
+        ensures answer { result ≡ settle_back self.old settled state }
+        ensures link { self.new ≡ step self.old (Disposition tag.now settled state) }
+        ensures no_delivery_lost_or_ended_twice { SafeAfter self.old (Disposition tag.now settled state) self.new }
     {
-        self.on_incoming_disposition(tag, settled, state)
-    }
-
-    fn on_incoming_disposition(
-        &mut self,
-        tag: &DeliveryTag,
-        settled: bool,
-        state: Option<DeliveryState>,
-    ) -> bool
-        ensures answer { result ≡ settle_back (view self.old) settled state }
-        ensures link { view self.new ≡ step (view self.old) (Disposition tag.now settled state) }
-    {
-        let waits = !settled && is_terminal(state) && is_second(self.settings.rcv_settle_mode);
+        let waits = !settled
+            && is_terminal(state)
+            && matches!(self.settings.rcv_settle_mode, ReceiverSettleMode::Second);
         self.settle(tag, settled, state);
         waits
     }

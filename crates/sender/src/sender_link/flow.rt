@@ -3,7 +3,6 @@ ghost use Rattle.std.specs.Prelude.{◌≡◌};
 ghost use Rattle.link.specs.Calls.{Flow, step};
 ghost use Rattle.link.specs.Credit.{flowed, flow_answer};
 ghost use Rattle.runs.specs.Safe.{SafeAfter};
-ghost use Rattle.sender.specs.Views.{view};
 
 use super::SenderLink;
 use link::flow::LinkFlow;
@@ -11,16 +10,9 @@ use link::flow::LinkFlow;
 impl<'a> SenderLink<'a> {
     // The peer grants credit, asks for it back, or asks how we stand.
     pub fn flow(&mut self, flow: &LinkFlow) -> Option<LinkFlow>
-        ensures answer { result ≡ flow_answer flow.now (view self.old).output (flowed flow.now (view self.old).flow) }
-        ensures link { view self.new ≡ step (view self.old) (Flow flow.now) }
-        ensures no_delivery_lost_or_ended_twice { SafeAfter (view self.old) (Flow flow.now) (view self.new) }
-    {
-        self.on_incoming_flow(flow)
-    }
-
-    fn on_incoming_flow(&mut self, flow: &LinkFlow) -> Option<LinkFlow>
-        ensures answer { result ≡ flow_answer flow.now (view self.old).output (flowed flow.now (view self.old).flow) }
-        ensures link { view self.new ≡ step (view self.old) (Flow flow.now) }
+        ensures answer { result ≡ flow_answer flow.now self.old.output (flowed flow.now self.old.flow) }
+        ensures link { self.new ≡ step self.old (Flow flow.now) }
+        ensures no_delivery_lost_or_ended_twice { SafeAfter self.old (Flow flow.now) self.new }
     {
         let handle = self.output_handle;
         self.flow_state.on_incoming_flow(flow, handle)

@@ -2,7 +2,7 @@
 ghost use Rattle.std.specs.Prelude.{◌≡◌, length, IfOk};
 ghost use Rattle.link.specs.Views.{made};
 ghost use Rattle.runs.specs.Safe.{Begun};
-ghost use Rattle.sender.specs.Views.{view, viewed, rooms_of};
+ghost use Rattle.sender.specs.Views.{rooms_of};
 
 use super::SenderLink;
 use amqp::error::MakeError;
@@ -29,32 +29,12 @@ impl<'a> SenderLink<'a> {
         resend: &'a mut [Slot<UnsettledMessage>],
         seats: &'a mut [Seat],
     ) -> Result<SenderLink<'a>, MakeError>
-        ensures link { viewed result ≡ made settings initial_delivery_count (rooms_of (length table.old) (length resume.old) (length resend.old)) (length seats.old) }
-        ensures no_delivery_lost_or_ended_twice { IfOk result (λ l. Begun (view l)) }
+        ensures link { result ≡ made settings initial_delivery_count (rooms_of (length table.old) (length resume.old) (length resend.old)) (length seats.old) }
+        ensures no_delivery_lost_or_ended_twice { IfOk result (λ l. Begun l) }
     {
-        SenderLink::make(
-            settings,
-            initial_delivery_count,
-            table,
-            resume,
-            resend,
-            seats,
-        )
-    }
-
-    fn make(
-        settings: Settings,
-        initial_delivery_count: u32,
-        table: &'a mut [Slot<UnsettledMessage>],
-        resume: &'a mut [ResumingDelivery],
-        resend: &'a mut [Slot<UnsettledMessage>],
-        seats: &'a mut [Seat],
-    ) -> Result<SenderLink<'a>, MakeError>
-        ensures { viewed result ≡ made settings initial_delivery_count (rooms_of (length table.old) (length resume.old) (length resend.old)) (length seats.old) }
-    {
-        if table.len() == 0
+        if table.is_empty()
             || table.len() > MOST
-            || seats.len() == 0
+            || seats.is_empty()
             || seats.len() > MOST
             || resend.len() < table.len()
         {

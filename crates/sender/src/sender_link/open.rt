@@ -3,7 +3,6 @@ ghost use Rattle.std.specs.Prelude.{◌≡◌};
 ghost use Rattle.link.specs.Attaching.{open_answer};
 ghost use Rattle.link.specs.Calls.{Open, step};
 ghost use Rattle.runs.specs.Safe.{SafeAfter};
-ghost use Rattle.sender.specs.Views.{view};
 
 use super::SenderLink;
 use amqp::error::LinkStateError;
@@ -16,28 +15,15 @@ impl<'a> SenderLink<'a> {
         handle: u32,
         incomplete_unsettled: bool,
     ) -> Result<LinkState, LinkStateError>
-        ensures answer { result ≡ open_answer (view self.old) incomplete_unsettled }
-        ensures link { view self.new ≡ step (view self.old) (Open handle incomplete_unsettled) }
-        ensures no_delivery_lost_or_ended_twice { SafeAfter (view self.old) (Open handle incomplete_unsettled) (view self.new) }
+        ensures answer { result ≡ open_answer self.old incomplete_unsettled }
+        ensures link { self.new ≡ step self.old (Open handle incomplete_unsettled) }
+        ensures no_delivery_lost_or_ended_twice { SafeAfter self.old (Open handle incomplete_unsettled) self.new }
     {
-        self.send_attach(handle, incomplete_unsettled)
-    }
-
-    fn send_attach(
-        &mut self,
-        handle: u32,
-        incomplete_unsettled: bool,
-    ) -> Result<LinkState, LinkStateError>
-        ensures answer { result ≡ open_answer (view self.old) incomplete_unsettled }
-        ensures link { view self.new ≡ step (view self.old) (Open handle incomplete_unsettled) }
-    {
-        match self.local_state.on_open(incomplete_unsettled) {
-            Some(state) => {
-                self.local_state = state;
-                self.output_handle = Some(handle);
-                Ok(state)
-            }
-            None => Err(LinkStateError::IllegalState),
-        }
+        let Some(state) = self.local_state.on_open(incomplete_unsettled) else {
+            return Err(LinkStateError::IllegalState);
+        };
+        self.local_state = state;
+        self.output_handle = Some(handle);
+        Ok(state)
     }
 }

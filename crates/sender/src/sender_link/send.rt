@@ -3,7 +3,6 @@ ghost use Rattle.std.specs.Prelude.{◌≡◌, ◌+◌, ◌≤◌, false, length
 ghost use Rattle.link.specs.Sending.{carrier, ready, busy, narrow, transfer_of, next_tag, tag_there, table_full};
 ghost use Rattle.link.specs.Calls.{Send};
 ghost use Rattle.runs.specs.Safe.{SafeAfter};
-ghost use Rattle.sender.specs.Views.{view};
 ghost use Rattle.sender.specs.Sends.{addable, planned, added, HandedOver, Sends, Uncollected};
 
 use super::SenderLink;
@@ -35,22 +34,21 @@ fn is_narrow(frame: usize, size: usize, len: usize) -> bool
 
 impl<'a> SenderLink<'a> {
     fn is_ready(&self) -> bool
-        ensures { result ≡ ready (view self.now) }
+        ensures { result ≡ ready self.now }
     {
-        match self.local_state {
-            LinkState::Attached => self.output_handle.is_some() && self.input_handle.is_some(),
-            _ => false,
-        }
+        matches!(self.local_state, LinkState::Attached)
+            && self.output_handle.is_some()
+            && self.input_handle.is_some()
     }
 
     fn is_busy(&self) -> bool
-        ensures { result ≡ busy (view self.now) }
+        ensures { result ≡ busy self.now }
     {
         !(self.resume.is_empty() && self.resend.is_empty())
     }
 
     fn transfer(&self, message: &Sendable) -> Transfer
-        ensures { result ≡ transfer_of (view self.now) message.now }
+        ensures { result ≡ transfer_of self.now message.now }
     {
         Transfer {
             handle: self.output_handle.unwrap_or(0),
@@ -68,7 +66,7 @@ impl<'a> SenderLink<'a> {
 
     // Whether an entry of the next tag finds no place, or no seat.
     fn may_add(&self) -> Result<(), SendError>
-        ensures { result ≡ addable (view self.now) }
+        ensures { result ≡ addable self.now }
     {
         if self.unsettled.is_full() {
             return Err(SendError::TableFull);
@@ -90,7 +88,7 @@ impl<'a> SenderLink<'a> {
         pool: &[u8],
         message: &Sendable,
     ) -> Result<Plan, SendError>
-        ensures { result ≡ planned (view self.now) (E.bytes encoder.now) pool.now message.now }
+        ensures { result ≡ planned self.now (E.bytes encoder.now) pool.now message.now }
     {
         if !self.is_ready() {
             return Err(SendError::LinkState(LinkStateError::IllegalState));
@@ -127,9 +125,9 @@ impl<'a> SenderLink<'a> {
 
     // A new tag's entry joins the table, and a seat waits for its outcome.
     fn add(&mut self, message: &Sendable)
-        requires absent { tag_there (next_tag (view self.old)) (view self.old) ≡ false }
-        requires room { table_full (view self.old) ≡ false }
-        ensures { view self.new ≡ added (view self.old) message.now }
+        requires absent { tag_there (next_tag self.old) self.old ≡ false }
+        requires room { table_full self.old ≡ false }
+        ensures { self.new ≡ added self.old message.now }
     {
         let number = self.flow_state.delivery_count;
         let entry = UnsettledMessage {
@@ -151,9 +149,9 @@ impl<'a> SenderLink<'a> {
         plan: &Plan,
     ) -> Result<Settlement, SendError>
         requires place { message.now.place.start + message.now.place.len ≤ length pool.now }
-        requires absent { plan.now.settled ≡ false → tag_there (next_tag (view self.old)) (view self.old) ≡ false }
-        requires room { plan.now.settled ≡ false → table_full (view self.old) ≡ false }
-        ensures handed_over { HandedOver (view self.old) plan.now message.now pool.now (S.model sink.old) result (view self.new) (S.model sink.new) }
+        requires absent { plan.now.settled ≡ false → tag_there (next_tag self.old) self.old ≡ false }
+        requires room { plan.now.settled ≡ false → table_full self.old ≡ false }
+        ensures handed_over { HandedOver self.old plan.now message.now pool.now (S.model sink.old) result self.new (S.model sink.new) }
         ensures uncollected { IfOk result Uncollected }
     {
         let end = message.place.start + message.place.len;
@@ -183,22 +181,9 @@ impl<'a> SenderLink<'a> {
         pool: &[u8],
         message: &Sendable,
     ) -> Result<Settlement, SendError>
-        ensures sends { Sends (view self.old) (carrier (E.bytes encoder.now) pool.now (S.model sink.old)) message.now result (view self.new) (S.model sink.new) }
+        ensures sends { Sends self.old (carrier (E.bytes encoder.now) pool.now (S.model sink.old)) message.now result self.new (S.model sink.new) }
         ensures uncollected { IfOk result Uncollected }
-        ensures no_delivery_lost_or_ended_twice { SafeAfter (view self.old) (Send (carrier (E.bytes encoder.now) pool.now (S.model sink.old)) message.now) (view self.new) }
-    {
-        self.send_payload(sink, encoder, pool, message)
-    }
-
-    fn send_payload<S: Sink, E: Encoder>(
-        &mut self,
-        sink: &mut S,
-        encoder: &E,
-        pool: &[u8],
-        message: &Sendable,
-    ) -> Result<Settlement, SendError>
-        ensures sends { Sends (view self.old) (carrier (E.bytes encoder.now) pool.now (S.model sink.old)) message.now result (view self.new) (S.model sink.new) }
-        ensures uncollected { IfOk result Uncollected }
+        ensures no_delivery_lost_or_ended_twice { SafeAfter self.old (Send (carrier (E.bytes encoder.now) pool.now (S.model sink.old)) message.now) self.new }
     {
         let plan = self.may_send(encoder, pool, message)?;
         self.do_send(sink, pool, message, &plan)

@@ -1,12 +1,6 @@
 use Rattle.std.proofs.Common.{arith, lit<, rules}
-use Rattle.codec.specs.Values.{transfer_fields}
 use Rattle.codec.proofs.Closing.{closes}
 use Rattle.codec.proofs.header.transfer.Goals as goal
 
 pub returns : goal.returns
-returns c =
-    record {
-      made = closes 0x14 (transfer_fields c.args.h.now) _ _ c.close.ensures.made (cc);
-      len = grind arith;
-      ranged = (lit< tt, search rules);
-    }
+returns g c = closes _ c.close.ensures.made (cc) (grind arith) (lit< tt) (search rules)

@@ -1,13 +1,12 @@
-use Rattle.std.proofs.Common.{arith}
-use Rattle.headers_text.proofs.Pairs.{added_none, added_more, added_all}
+use Rattle.std.proofs.Common.{rules}
+use Rattle.headers_text.proofs.Pairs.{added_more, added_all}
 use Rattle.headers_text.proofs.hex.decode.Goals as goal
 
-pub loop-i-init : goal.loop-i-init
-loop-i-init c = added_none c.args.text.now _
+pub loop-high-preserved : goal.loop-high-preserved
+loop-high-preserved c =
+    let chunks = c.as_chunks.ensures in
+    added_more c.args.text.now _ _ _ _ _ c.in_ok-ok_or.field-0 chunks.front c.loop-high-test.true chunks.front_len c.loop-high.invariant (search rules) c.in_ok-push.ensures.items
 
-pub loop-i-preserved : goal.loop-i-preserved
-loop-i-preserved c =
-    added_more _ _ _ _ c.loop-i.i c.in-Some.v c.loop-i.invariant (omega arith) c.in-Some.ensures c.in-Ok.ensures.items
-
-pub returns : goal.returns
-returns c = added_all _ _ _ c.loop-i.i c.loop-i.invariant (omega arith)
+pub returns-clause-added : goal.returns-clause-added
+returns-clause-added c =
+    added_all c.args.text.now _ _ _ _ c.as_chunks.ensures.front c.loop-high-test.false (search rules) c.loop-high.invariant

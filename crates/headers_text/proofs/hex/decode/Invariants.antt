@@ -1,6 +1,7 @@
-use Rattle.std.proofs.Common.{◌*◌, take, vec_items}
+use Rattle.std.proofs.Common.{take, vec_items}
+use Rattle.std.specs.List.{concat}
 use Rattle.headers_text.specs.Hex.{Added}
 use Rattle.headers_text.proofs.hex.decode.Given as goal
 
-abbrev pub invariant-loop-i : goal.invariant-loop-i
-invariant-loop-i l = Added (take (2 * l.i) l.text) (vec_items l.initial.into) (vec_items l.into)
+abbrev pub invariant-loop-high : goal.invariant-loop-high
+invariant-loop-high l = Added (concat (take l.high-index l.digits)) (vec_items l.initial.into) (vec_items l.into)

@@ -1,7 +1,56 @@
+use Rattle.std.proofs.Common.{Ok, sym, ap, ◌∙◌}
+use Rattle.link.specs.Attaching.{attach_refusal, late_refusal, attached_state, exchanged}
+use Rattle.link.specs.Calls.{Attach}
+use Rattle.link.specs.Rows.{gated}
+use Rattle.link.proofs.Rows.{err_by, gated_err, gated_ok}
 use Rattle.runs.proofs.Runs.{safe_after}
+use Rattle.sender.proofs.Attaching.{refused_answer, refused_link, late_answer, done_answer, moved_to, moved_link}
 use Rattle.sender.proofs.sender_link.SenderLink.attach.Goals as goal
+
+pub returns-in_err-self-inside : goal.returns-in_err-self-inside
+returns-in_err-self-inside c =
+    let v = c.args.self.now in
+    let a = c.args.attach.now in
+    let pool = c.args.pool.now in
+    let e = gated_err (attach_refusal v a pool) (attached_state v a) _ (sym c.in_err-self-inside.was ∙ c.may_attach.ensures) in
+    let f = c.from_residual.ensures in
+    let l = refused_link v a pool _ e in
+    record {
+      answer = err_by c.from_residual.result _ f.0 f.1 ∙ refused_answer v a pool _ e;
+      link = l;
+      no_delivery_lost_or_ended_twice = safe_after v (Attach a pool) v l;
+    }
+
+pub returns-in_err-negotiate : goal.returns-in_err-negotiate
+returns-in_err-negotiate c =
+    let v = c.args.self.now in
+    let a = c.args.attach.now in
+    let pool = c.args.pool.now in
+    let m = gated_ok (attach_refusal v a pool) (attached_state v a) _ (sym c.in_ok-self-inside.was ∙ c.may_attach.ensures) in
+    let n = c.negotiate.ensures in
+    let e = gated_err (late_refusal v a) tt _ (sym c.in_err-negotiate.was ∙ n.answer ∙ ap (λ u. gated (late_refusal u a) tt) c.self.view_is) in
+    let f = c.from_residual-in_err-negotiate.ensures in
+    let l = moved_link v a pool _ _ m.0 m.1 (n.link ∙ ap (λ u. moved_to c.in_ok-self-inside.field-0 u a) c.self.view_is) in
+    record {
+      answer = err_by c.from_residual-in_err-negotiate.result _ f.0 f.1 ∙ late_answer v a pool _ m.0 e;
+      link = l;
+      no_delivery_lost_or_ended_twice = safe_after v (Attach a pool) _ l;
+    }
 
 pub returns : goal.returns
 returns c =
-    let e = c.on_incoming_attach.ensures in
-    record { answer = e.answer; link = e.link; no_delivery_lost_or_ended_twice = safe_after _ _ _ e.link }
+    let v = c.args.self.now in
+    let a = c.args.attach.now in
+    let pool = c.args.pool.now in
+    let m = gated_ok (attach_refusal v a pool) (attached_state v a) _ (sym c.in_ok-self-inside.was ∙ c.may_attach.ensures) in
+    let n = c.negotiate.ensures in
+    let w = n.link ∙ ap (λ u. moved_to c.in_ok-self-inside.field-0 u a) c.self.view_is in
+    let o = gated_ok (late_refusal v a) tt _ (sym c.in_ok-negotiate.was ∙ n.answer ∙ ap (λ u. gated (late_refusal u a) tt) c.self.view_is) in
+    let l = moved_link v a pool _ _ m.0 m.1 w in
+    let x = ap (λ u. exchanged u.state u a) w in
+    let y = ap (λ s. exchanged s v a) m.1 in
+    record {
+      answer = ap Ok (c.exchange.ensures ∙ x ∙ y) ∙ done_answer v a pool m.0 o.0;
+      link = l;
+      no_delivery_lost_or_ended_twice = safe_after v (Attach a pool) _ l;
+    }

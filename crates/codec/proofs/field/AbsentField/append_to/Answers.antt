@@ -1,7 +1,0 @@
-use Rattle.std.proofs.Common.{rules}
-use Rattle.codec.specs.Bodies.{step}
-use Rattle.codec.proofs.field.AbsentField.append_to.Goals as goal
-
-pub returns : goal.returns
-unfolding step
-returns c = search rules

@@ -1,7 +1,0 @@
-use Rattle.codec_forms.specs.Compact.{compact_form}
-use Rattle.codec_forms.specs.Forms.{compact_lawful}
-use Rattle.codec_forms.proofs.Short.{short}
-use Rattle.codec_forms.proofs.compact.compact_is_at_most_255.Goals as goal
-
-pub returns-clause-holds : goal.returns-clause-holds
-returns-clause-holds c = short compact_form compact_lawful.bounds

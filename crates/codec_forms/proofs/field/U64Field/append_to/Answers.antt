@@ -1,7 +1,0 @@
-use Rattle.std.proofs.Common.{rules}
-use Rattle.codec_forms.specs.Bodies.{step}
-use Rattle.codec_forms.proofs.field.U64Field.append_to.Goals as goal
-
-pub returns : goal.returns
-unfolding step
-returns g c = search rules

@@ -1,9 +1,0 @@
-use Rattle.std.proofs.Common.{length, append_assoc, rules}
-use Rattle.codec_forms.specs.Bodies.{held, step}
-use Rattle.codec_forms.proofs.state.ConditionField.append_to.Goals as goal
-
-pub returns : goal.returns
-unfolding step
-returns g c =
-    let a = append_assoc (held c.begin.new.self.bytes) (g.F.Form.form.symbols (length c.condition_name-name.result.now)) c.condition_name-name.result.now in
-    search rules

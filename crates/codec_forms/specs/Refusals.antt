@@ -1,7 +1,0 @@
--- The number of a refusal to read.
-use Rattle.std.specs.Prelude.{ℕ}
-use Rattle.codec_forms.specs.declared.error.ReadError.{ReadError}
-use Rattle.codec_forms.specs.declared.error.ReadError.TheVariants.{NotEncoded}
-
-abbrev pub read_number : ReadError → ℕ
-read_number (NotEncoded at) = 18

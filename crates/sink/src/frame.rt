@@ -1,0 +1,11 @@
+// A frame as programs hold it: what goes into a sink, and what comes out of one.
+use amqp::header::{FrameKind, Header};
+
+#[derive(Clone, Copy)]
+pub struct Frame<'a> {
+    pub kind: FrameKind,
+    // The handle that the peer gave the link, or 0 for a disposition.
+    pub handle: u32,
+    pub header: Header,
+    pub payload: &'a [u8],
+}
