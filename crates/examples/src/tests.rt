@@ -72,7 +72,7 @@ fn sent(
 // How many frames wait, and how long the last payload is.
 fn taken(queue: &mut Queue, out: &mut [u8]) -> (usize, usize) {
     (1..=4)
-        .map_while(|n| Some((n, queue.take(out).ok()??.len)))
+        .map_while(|n| Some((n, queue.take(out).ok()??.size)))
         .last()
         .unwrap_or_default()
 }

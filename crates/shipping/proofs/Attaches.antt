@@ -9,8 +9,6 @@ use Rattle.link.specs.declared.seat.Seat.TheVariants.{Free}
 use Rattle.link.specs.declared.settings.Settings.{Settings}
 use Rattle.link.specs.Calls.{Flow, step}
 use Rattle.link.specs.Views.{View, Rooms, fresh, bad_sizes, made}
-use Rattle.sender.specs.declared.sender_link.SenderLink.{SenderLink}
-use Rattle.sender.specs.Views.{view, viewed}
 use Rattle.shipping.specs.declared.report.ShipError.{ShipError}
 use Rattle.shipping.specs.Archives.{Intake, untouched, granting}
 use Rattle.shipping.specs.Docks.{AtRest}
@@ -21,9 +19,9 @@ fits true v w h = let z : ◌≡◌ {A = ℕ} 0 1 = cc in absurd (omega arith)
 fits false v w h = (refl, cc)
 
 -- a link that was made is new, and its memory's sizes fit
-pub new_link : (s : Settings) (rooms : Rooms) (seats : ℕ) (r : Result SenderLink MakeError) (m : Result SenderLink ShipError) (P : MakeError → Type 0) (l : SenderLink) → viewed r ≡ made s 0 rooms seats → MatchResult r (λ x. m ≡ Ok x) P → is_ok m ≡ is_ok r → m ≡ Ok l → (bad_sizes rooms seats ≡ false) × (view l ≡ fresh s 0 rooms seats)
+pub new_link : (s : Settings) (rooms : Rooms) (seats : ℕ) (r : Result View MakeError) (m : Result View ShipError) (P : MakeError → Type 0) (l : View) → r ≡ made s 0 rooms seats → MatchResult r (λ x. m ≡ Ok x) P → is_ok m ≡ is_ok r → m ≡ Ok l → (bad_sizes rooms seats ≡ false) × (l ≡ fresh s 0 rooms seats)
 new_link s rooms seats (Ok x) m P l h same ok e =
-    let is : x ≡ l = cc in fits (bad_sizes rooms seats) (view l) (fresh s 0 rooms seats) (ap (λ (y : SenderLink). Ok (view y)) (sym is) ∙ h)
+    let is : x ≡ l = cc in fits (bad_sizes rooms seats) l (fresh s 0 rooms seats) (ap (λ (y : View). Ok y) (sym is) ∙ h)
 new_link s rooms seats (Err x) m P l h same ok e = let z : ◌≡◌ {A = ℕ} 0 1 = cc in absurd (omega arith)
 
 -- the first credit

@@ -9,8 +9,7 @@ use Rattle.link.specs.declared.seat.Seat.TheVariants.{Free}
 use Rattle.link.specs.declared.settings.Settings.{Settings}
 use Rattle.link.specs.declared.state.LinkState.TheVariants.{Attached}
 use Rattle.link.specs.Views.{View, Rooms, empty, bad_sizes}
-use Rattle.sender.specs.declared.sender_link.SenderLink.{SenderLink}
-use Rattle.sender.specs.Views.{rooms_of, view}
+use Rattle.sender.specs.Views.{rooms_of}
 use Rattle.shipping.specs.declared.dock.opening.LinkMemory.{LinkMemory}
 use Rattle.shipping.specs.declared.report.ShipError.{ShipError}
 use Rattle.shipping.specs.declared.report.ShipError.TheVariants.{Refused, NoMemory, Link}
@@ -51,8 +50,8 @@ opened frame credit rooms seats =
     }
 
 -- the link, or an error where the memory's sizes do not fit
-abbrev pub AttachedIn : LinkMemory → (frame : ℕ) → Result SenderLink ShipError → Type 0
-AttachedIn m frame (Ok l) = (bad_sizes (rooms_in m) (seats_in m) ≡ false) × (view l ≡ opened frame 0 (rooms_in m) (seats_in m))
+abbrev pub AttachedIn : LinkMemory → (frame : ℕ) → Result View ShipError → Type 0
+AttachedIn m frame (Ok l) = (bad_sizes (rooms_in m) (seats_in m) ≡ false) × (l ≡ opened frame 0 (rooms_in m) (seats_in m))
 AttachedIn m frame (Err e) = (bad_sizes (rooms_in m) (seats_in m) ≡ true) × (e ≡ Link)
 
 -- the longest frame that is asked for

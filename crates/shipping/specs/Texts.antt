@@ -1,10 +1,9 @@
 -- What is printed of outcomes, shipments and totals.
-use Rattle.std.specs.Prelude.{ℕ, ◌+◌, min, Bool, true, false, cond, List, ◌++◌, Some, None, codes, decimal, Option}
-use Rattle.amqp.specs.declared.condition.AmqpError.{AmqpError}
+use Rattle.std.specs.Prelude.{ℕ, ◌+◌, min, Bool, true, false, cond, List, ◌++◌, codes, decimal}
 use Rattle.amqp.specs.declared.state.DeliveryState.{DeliveryState}
 use Rattle.amqp.specs.declared.state.DeliveryState.TheVariants.{Received, Accepted, Rejected, Released, Modified}
 use Rattle.amqp.specs.Refusals.{send_number}
-use Rattle.amqp.specs.States.{condition_number}
+use Rattle.amqp.specs.Texts.{state_text}
 use Rattle.link.specs.declared.delivery.Outcome.TheVariants.{State, NoState}
 use Rattle.link.specs.declared.delivery.Progress.{Progress}
 use Rattle.link.specs.declared.delivery.Progress.TheVariants.{Pending, Ended}
@@ -12,23 +11,6 @@ use Rattle.shipping.specs.declared.report.ShipError.{ShipError}
 use Rattle.shipping.specs.declared.report.ShipError.TheVariants.{Refused, NoMemory, Link}
 use Rattle.shipping.specs.declared.report.Shipment.{Shipment}
 use Rattle.shipping.specs.declared.report.Totals.{Totals}
-
-abbrev pub flag_text : Option Bool → List ℕ
-flag_text None = codes "absent"
-flag_text (Some false) = codes "no"
-flag_text (Some true) = codes "yes"
-
--- a condition's number, and 0 for none
-abbrev pub condition_in : Option AmqpError → ℕ
-condition_in None = 0
-condition_in (Some e) = condition_number e
-
-abbrev pub state_text : DeliveryState → List ℕ
-state_text (Received p) = codes "received(" ++ (decimal p.section_number ++ (codes "," ++ (decimal p.section_offset ++ codes ")")))
-state_text Accepted = codes "accepted"
-state_text (Rejected e) = codes "rejected(" ++ (decimal (condition_in e) ++ codes ")")
-state_text Released = codes "released"
-state_text (Modified failed undeliverable) = codes "modified(" ++ (flag_text failed ++ (codes "," ++ (flag_text undeliverable ++ codes ")")))
 
 abbrev pub told_text : Progress → List ℕ
 told_text Pending = codes "pending"

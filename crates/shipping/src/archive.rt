@@ -7,6 +7,7 @@ use amqp::header::{FrameKind, Header};
 use amqp::state::DeliveryState;
 use amqp::tag::DeliveryTag;
 use link::flow::LinkFlow;
+use sink::frame::Frame;
 use std::alloc::{AllocError, Global};
 use std::marker::Model;
 
@@ -57,22 +58,17 @@ impl Archive {
     }
 
     // A first frame begins anew, a continuation is appended, and a disposition brings no payload.
-    pub fn receive(
-        &mut self,
-        kind: FrameKind,
-        header: &Header,
-        payload: &[u8],
-    ) -> Result<(), AllocError>
-        ensures { OnOk result (self.new ≡ took kind header.now payload.now self.old) }
+    pub fn receive(&mut self, frame: Frame<'_>) -> Result<(), AllocError>
+        ensures { OnOk result (self.new ≡ took frame.kind frame.header frame.payload.now self.old) }
     {
-        match kind {
+        match frame.kind {
             FrameKind::First => {
                 self.deliveries = self.deliveries.wrapping_add(1);
-                self.tag = tag_of(header);
+                self.tag = tag_of(&frame.header);
                 self.joined.clear();
-                self.joined.extend_from_slice(payload)
+                self.joined.extend_from_slice(frame.payload)
             }
-            FrameKind::Continuation => self.joined.extend_from_slice(payload),
+            FrameKind::Continuation => self.joined.extend_from_slice(frame.payload),
             FrameKind::Disposition => Ok(()),
         }
     }

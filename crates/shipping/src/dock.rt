@@ -24,10 +24,9 @@ pub struct Dock<'a> {
 // What callers see of a dock, without the memory that payloads are read to.
 impl<'a> Model for Dock<'a> {
     ghost use Rattle.queue.specs.Queues.{model_of};
-    ghost use Rattle.sender.specs.Views.{view};
     ghost use Rattle.shipping.specs.Docks.{Docked};
 
     ghost Value = { Docked };
 
-    ghost view = { λ d. record { link = view d.link; queue = model_of d.queue; archive = d.archive; credit = d.credit } };
+    ghost view = { λ d. record { link = d.link; queue = model_of d.queue; archive = d.archive; credit = d.credit } };
 }

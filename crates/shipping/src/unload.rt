@@ -13,8 +13,8 @@ pub fn unload(queue: &mut Queue, out: &mut [u8], archive: &mut Archive) -> Resul
     ensures queue { OnOk result (model_of queue.new ≡ emptied (model_of queue.old)) }
     ensures archive { OnOk result (archive.new ≡ took_all (model_of queue.old).waiting archive.old) }
 {
-    while let Some(frame) = queue.take(out)? {
-        archive.receive(frame.kind, &frame.header, &out[0..frame.len])?;
+    while let Some(place) = queue.take(out)? {
+        archive.receive(place.frame(out))?;
     }
     Ok(())
 }

@@ -2,7 +2,7 @@
 ghost use Rattle.std.specs.Prelude.{◌≡◌, ℕ, IfOk, IsOkAnd};
 ghost use Rattle.queue.specs.Queues.{model_of, empty};
 ghost use Rattle.link.specs.Views.{Rooms, fresh, made};
-ghost use Rattle.sender.specs.Views.{rooms_of, view, viewed};
+ghost use Rattle.sender.specs.Views.{rooms_of};
 ghost use Rattle.shipping.specs.Openings.{rooms_in, seats_in, settings_for, Answering, opened, AttachedIn, Opening};
 
 use super::Dock;
@@ -75,7 +75,7 @@ impl LinkMemory {
         settings: Settings,
         initial_delivery_count: u32,
     ) -> Result<SenderLink<'_>, MakeError>
-        ensures { viewed result ≡ made settings initial_delivery_count (rooms_in self.old) (seats_in self.old) }
+        ensures { result ≡ made settings initial_delivery_count (rooms_in self.old) (seats_in self.old) }
     {
         SenderLink::new(
             settings,
@@ -132,7 +132,7 @@ pub fn answering<'p>(unsettled: &'p [PeerDelivery<'p>]) -> Attach<'p>
 
 // Our attach goes out, and the archive's comes. A new link takes both.
 fn attach_ends(link: &mut SenderLink<'_>) -> Result<(), ShipError>
-    ensures { (frame seats : ℕ) (rooms : Rooms) → view link.old ≡ fresh (settings_for frame) 0 rooms seats → IsOkAnd result (λ _. view link.new ≡ opened frame 0 rooms seats) }
+    ensures { (frame seats : ℕ) (rooms : Rooms) → link.old ≡ fresh (settings_for frame) 0 rooms seats → IsOkAnd result (λ _. link.new ≡ opened frame 0 rooms seats) }
 {
     link.open(0, false).map_err(|_| ShipError::Link)?;
     link.attach(&answering(&[]), &[])
