@@ -3,6 +3,7 @@ use Rattle.std.proofs.Common.{◌≡◌, ℕ, ◌+◌, ◌<◌, ◌≤◌, min, 
 use Rattle.std.proofs.lemmas.List.{length-take, length-drop}
 use Rattle.std.proofs.lemmas.Bool.Decides.{nat_tests}
 use Rattle.std.specs.List.{AllByRecursion}
+use Rattle.std.specs.Option.{unwrap_or}
 use Rattle.amqp.specs.declared.error.SendError.{SendError}
 use Rattle.amqp.specs.declared.error.SendError.TheVariants as fault
 use Rattle.amqp.specs.Headers.{Widest}
@@ -11,7 +12,6 @@ use Rattle.sink.proofs.Cutting.{carried}
 use Rattle.unsettled.specs.declared.message.Place.{Place}
 use Rattle.unsettled.specs.Messages.{outside}
 use Rattle.link.specs.declared.delivery.Sendable.{Sendable}
-use Rattle.link.specs.Credit.{or_else}
 use Rattle.link.specs.Rows.{first}
 use Rattle.link.specs.Sending.{Carrier, message, payload, goes_settled, transfer_of, share_of, narrow, size_for, share_for, next_tag, tag_there, table_full, no_seat, entry_rows, own_rows, sink_row, send_refusal, sent_frames}
 use Rattle.link.specs.Views.{View}
@@ -37,7 +37,7 @@ credit_clear n h = grind (arith, nat_tests)
 
 -- the rows of an entry are those of an unsettled delivery
 entry_clear : (v : View) (b : Bool) → AllByRecursion (λ o. o ≡ None) (cond b [] (entry_rows v)) → b ≡ false → (table_full v ≡ false) × (tag_there (next_tag v) v ≡ false) × (no_seat v ≡ false)
-entry_clear v true h e = let w : ◌≡◌ {A = ℕ} 0 1 = cc in absurd (omega arith)
+entry_clear v true h e = absurd (cc)
 entry_clear v false h e =
     (row_off (table_full v) fault.TableFull h.0, row_off (tag_there (next_tag v) v) fault.TagInTable h.1.0, row_off (no_seat v) fault.NoSeat h.1.1.0)
 
@@ -62,7 +62,7 @@ length_message pool p h = omega (arith, length-take p.len (drop p.start pool), l
 pub carries : (v : View) (c : Carrier) (m : Sendable) → Widest c.bytes (transfer_of v m) → Clear v c m → Carries c.bytes v.settings.max_frame_size (payload c m) (sent_frames v c m)
 carries v c m w k =
     let l = length_message c.pool m.place k.place in
-    carried c.bytes (transfer_of v m) w (or_else v.input 0) (max 1 (share_for v c m)) v.settings.max_frame_size (payload c m) (omega arith)
+    carried c.bytes (transfer_of v m) w (unwrap_or v.input 0) (max 1 (share_for v c m)) v.settings.max_frame_size (payload c m) (omega arith)
     (omega (arith, k.fits, ap (λ n. min (max 1 (share_for v c m)) n) l))
 
 -- a send that nothing refuses is refused by no row of its own
@@ -73,4 +73,4 @@ own_clear v c m h = go (first (own_rows v c m)) refl
     go None e = refl
     go (Some x) e =
         let f = first_some (own_rows v c m) (sink_row c.sink (share_for v c m) (payload c m) ∷ []) x e in
-        let z : ◌≡◌ {A = ℕ} 0 1 = cc in absurd (omega arith)
+        absurd (cc)

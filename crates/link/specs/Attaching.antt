@@ -1,6 +1,6 @@
 -- Open and attach.
 use Rattle.std.specs.Prelude.{ℕ, Bool, cond, not, ◌&&◌, ◌||◌, List, [], ◌∷◌, length, is_some, Some, Option, Result, ◌==◌, nat_lt}
-use Rattle.std.specs.Option.{option_or}
+use Rattle.std.specs.Option.{option_or, unwrap_or}
 use Rattle.amqp.specs.declared.error.LinkStateError.{LinkStateError}
 use Rattle.amqp.specs.declared.error.LinkStateError.TheVariants.{IllegalState}
 use Rattle.amqp.specs.declared.error.SenderAttachError.{SenderAttachError}
@@ -12,7 +12,6 @@ use Rattle.link.specs.declared.attach.SenderAttachExchange.{SenderAttachExchange
 use Rattle.link.specs.declared.attach.SenderAttachExchange.TheVariants.{Complete, IncompleteUnsettled, Resume}
 use Rattle.link.specs.declared.settings.Settings.{Settings}
 use Rattle.link.specs.declared.state.LinkState.{LinkState}
-use Rattle.link.specs.Credit.{or_else}
 use Rattle.link.specs.Rows.{row, first, gated, unless}
 use Rattle.link.specs.Settings.{with_limit, with_receiver, smaller_limit, conflict}
 use Rattle.link.specs.States.{after_open, after_attach, is_incomplete}
@@ -44,7 +43,7 @@ abbrev pub open_refusal : View → (incomplete : Bool) → Option LinkStateError
 open_refusal v incomplete = stuck (after_open v.state incomplete) IllegalState
 
 abbrev pub opened_state : View → (incomplete : Bool) → LinkState
-opened_state v incomplete = or_else (after_open v.state incomplete) v.state
+opened_state v incomplete = unwrap_or (after_open v.state incomplete) v.state
 
 abbrev pub opened : View → (handle : ℕ) (incomplete : Bool) → Turn
 opened v handle incomplete = moves (opened_state v incomplete) (Some handle) v.input v.settings v
@@ -80,7 +79,7 @@ abbrev pub late_refusal : View → Attach → Option SenderAttachError
 late_refusal v a = first (no_target a ∷ modes_conflict v a ∷ [])
 
 abbrev pub attached_state : View → Attach → LinkState
-attached_state v a = or_else (next_state v a) v.state
+attached_state v a = unwrap_or (next_state v a) v.state
 
 abbrev pub receiving : View → Attach → Settings
 receiving v a = with_receiver a.rcv_settle_mode v.settings

@@ -1,11 +1,8 @@
 -- Link credit (Part 2, 2.6.7).
 use Rattle.std.specs.Prelude.{ℕ, ◌+◌, ◌-◌, ◌%◌, ◌^◌, min, Bool, true, false, cond, ◌||◌, Some, None, Option}
+use Rattle.std.specs.Option.{unwrap_or}
 use Rattle.link.specs.declared.flow.LinkFlow.{LinkFlow}
 use Rattle.link.specs.declared.flow.LinkFlowState.{LinkFlowState}
-
-abbrev pub or_else : {X : Type 0} → Option X → X → X
-or_else None x = x
-or_else (Some y) x = y
 
 -- the same count's link with another count and credit
 abbrev pub counting_on : (count credit : ℕ) → LinkFlowState → LinkFlowState
@@ -22,7 +19,7 @@ consumed f = counting_on ((f.delivery_count + 1) % 2 ^ 32) (f.link_credit - 1) f
 -- a credit it stays
 abbrev pub credit_after : Option ℕ → Option ℕ → LinkFlowState → ℕ
 credit_after None count f = f.link_credit
-credit_after (Some credit) count f = min (or_else count f.initial_delivery_count + credit) 4294967295 - f.delivery_count
+credit_after (Some credit) count f = min (unwrap_or count f.initial_delivery_count + credit) 4294967295 - f.delivery_count
 
 -- a drain adds the credit to the count
 abbrev pub drained : Bool → (credit : ℕ) → LinkFlowState → LinkFlowState

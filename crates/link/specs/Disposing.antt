@@ -1,16 +1,15 @@
 -- The peer's disposition, and what tickets tell.
-use Rattle.std.specs.Prelude.{ℕ, Bool, true, false, not, ◌&&◌, ◌||◌, List, [], ◌∷◌, Some, None, Ok, Err, Option, Result}
+use Rattle.std.specs.Prelude.{ℕ, Bool, true, false, not, ◌&&◌, ◌||◌, List, [], ◌∷◌, Some, None, Option, Result}
 use Rattle.amqp.specs.declared.error.TicketError.{TicketError}
-use Rattle.amqp.specs.declared.error.TicketError.TheVariants.{NoSeat}
 use Rattle.amqp.specs.declared.mode.ReceiverSettleMode.{ReceiverSettleMode}
 use Rattle.amqp.specs.declared.mode.ReceiverSettleMode.TheVariants.{First, Second}
 use Rattle.amqp.specs.declared.state.DeliveryState.{DeliveryState}
 use Rattle.amqp.specs.declared.tag.DeliveryTag.{DeliveryTag}
 use Rattle.unsettled.specs.declared.message.UnsettledMessage.{UnsettledMessage}
 use Rattle.unsettled.specs.Tables.{look, put_in, swap_removed}
-use Rattle.link.specs.declared.delivery.Progress.{Progress}
+use Rattle.link.specs.declared.delivery.Outcome.{Outcome}
 use Rattle.link.specs.Outcomes.{ended, recorded, outcome_of}
-use Rattle.link.specs.Seats.{seat_of}
+use Rattle.link.specs.Seats.{seat_answer}
 use Rattle.link.specs.Sending.{with_table}
 use Rattle.link.specs.Views.{View, Held}
 use Rattle.link.specs.Turns.{Turn, End, stay}
@@ -59,12 +58,8 @@ settle_back v settled s = not settled && (ended s && settles_second v.settings.r
 
 -- ---- tickets
 
-abbrev pub seat_answer : Option Progress → Result Progress TicketError
-seat_answer None = Err NoSeat
-seat_answer (Some p) = Ok p
-
-abbrev pub looked : View → (number : ℕ) → Result Progress TicketError
-looked v n = seat_answer (seat_of n v.seats)
+abbrev pub looked : View → (number : ℕ) → Result (Option Outcome) TicketError
+looked v n = seat_answer n v.seats
 
 -- the ticket is spent; its delivery stays
 abbrev pub collected : View → (number : ℕ) → Turn

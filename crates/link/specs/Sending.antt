@@ -1,6 +1,7 @@
 -- Send: what it refuses, and what an accepted one does.
 use Rattle.std.specs.Prelude.{ℕ, ◌+◌, ◌-◌, max, Bool, true, false, cond, not, ◌&&◌, ◌||◌, List, [], ◌∷◌, ◌++◌, length, take, drop, is_some, Some, None, Option, Result, ◌==◌, nat_le, nat_lt}
-use Rattle.std.specs.Option.{option_map}
+use Rattle.std.specs.List.{list_any}
+use Rattle.std.specs.Option.{option_map, unwrap_or}
 use Rattle.amqp.specs.declared.error.LinkStateError.TheVariants.{IllegalState}
 use Rattle.amqp.specs.declared.error.SendError.{SendError}
 use Rattle.amqp.specs.declared.error.SendError.TheVariants as fault
@@ -14,11 +15,11 @@ use Rattle.sink.specs.Cuts.{count_of, frames_of, split_fault}
 use Rattle.sink.specs.Frames.{Frame, Model}
 use Rattle.unsettled.specs.declared.message.Place.{Place}
 use Rattle.unsettled.specs.Messages.{outside}
-use Rattle.unsettled.specs.Tables.{place}
+use Rattle.unsettled.specs.Tables.{look}
 use Rattle.link.specs.declared.delivery.Sendable.{Sendable}
-use Rattle.link.specs.Credit.{or_else, consumed}
+use Rattle.link.specs.Credit.{consumed}
 use Rattle.link.specs.Rows.{row, first, gated}
-use Rattle.link.specs.Seats.{place_by, is_free}
+use Rattle.link.specs.Seats.{is_free}
 use Rattle.link.specs.Settings.{settles, exceeds}
 use Rattle.link.specs.States.{is_attached}
 use Rattle.link.specs.Views.{View, Held, Entry}
@@ -60,7 +61,7 @@ goes_settled v m = settles v.settings.snd_settle_mode m.settled
 abbrev pub transfer_of : View → Sendable → Transfer
 transfer_of v m =
     record {
-      handle = or_else v.output 0;
+      handle = unwrap_or v.output 0;
       delivery_id = None;
       delivery_tag = Some (next_tag v);
       message_format = Some m.message_format;
@@ -88,7 +89,7 @@ share_for v c m = share_of v.settings.max_frame_size (size_for v c m)
 
 -- the frames of a transfer with a payload
 abbrev pub cut : View → Transfer → (share : ℕ) → List ℕ → List Frame
-cut v t share msg = frames_of t (or_else v.input 0) (max 1 share) msg
+cut v t share msg = frames_of t (unwrap_or v.input 0) (max 1 share) msg
 
 abbrev pub sent_frames : View → Carrier → Sendable → List Frame
 sent_frames v c m = cut v (transfer_of v m) (share_for v c m) (payload c m)
@@ -113,10 +114,10 @@ abbrev pub table_full : View → Bool
 table_full v = nat_le v.rooms.table (length v.held.table)
 
 abbrev pub tag_there : DeliveryTag → View → Bool
-tag_there t v = is_some (place t v.held.table)
+tag_there t v = is_some (look t v.held.table)
 
 abbrev pub no_seat : View → Bool
-no_seat v = not (is_some (place_by is_free v.seats))
+no_seat v = not (list_any is_free v.seats)
 
 -- what refuses an entry of the next tag: 11, 13, 12
 abbrev pub entry_rows : View → List (Option SendError)

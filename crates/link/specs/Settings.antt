@@ -1,5 +1,6 @@
 -- What both ends agree on: settlement and the longest message.
-use Rattle.std.specs.Prelude.{ℕ, min, Bool, true, false, cond, not, ◌&&◌, Some, None, Option, ◌==◌, nat_lt}
+use Rattle.std.specs.Prelude.{ℕ, min, Bool, true, false, cond, not, ◌&&◌, Option, ◌==◌, nat_lt}
+use Rattle.std.specs.Option.{unwrap_or}
 use Rattle.amqp.specs.declared.mode.SenderSettleMode.{SenderSettleMode}
 use Rattle.amqp.specs.declared.mode.SenderSettleMode.TheVariants.{Unsettled, Settled, Mixed}
 use Rattle.amqp.specs.declared.mode.ReceiverSettleMode.{ReceiverSettleMode}
@@ -9,8 +10,7 @@ use Rattle.link.specs.declared.settings.Settings.{Settings}
 abbrev pub settles : SenderSettleMode → Option Bool → Bool
 settles Settled asked = true
 settles Unsettled asked = false
-settles Mixed None = false
-settles Mixed (Some b) = b
+settles Mixed asked = unwrap_or asked false
 
 -- the smaller of two limits, 0 being none
 abbrev pub smaller_limit : ℕ → ℕ → ℕ

@@ -9,12 +9,13 @@ pub struct Attach<'p> {
     pub rcv_settle_mode: ReceiverSettleMode,
     pub has_target: bool,
     pub unsettled: &'p [PeerDelivery<'p>],
+    // A field of the attach: what the map lists counts all the same.
     pub incomplete_unsettled: bool,
     pub max_message_size: u64,
 }
 
 // What the exchange of attaches came to.
-#[derive(Clone, Copy)]
+#[derive(Clone, Copy, PartialEq, Eq)]
 pub enum SenderAttachExchange {
     // No delivery was unsettled at either end.
     Complete,

@@ -15,29 +15,20 @@ pub struct Sendable {
     pub batchable: bool,
 }
 
-// How a delivery ended.
-#[derive(Clone, Copy)]
+// How a delivery ended. It is no Option, since a ticket tells one of these or none yet: of None and Some(None) nothing
+// would say which is which.
+#[derive(Clone, Copy, PartialEq, Eq)]
 pub enum Outcome {
     State(DeliveryState),
     // It was settled, and no state was ever told.
     NoState,
 }
 
-// What a ticket tells.
-#[derive(Clone, Copy)]
-pub enum Progress {
-    Pending,
-    Ended(Outcome),
-}
-
 // Whether a state is there, and is an outcome.
 pub fn is_terminal(state: Option<DeliveryState>) -> bool
     ensures { result ≡ ended state }
 {
-    match state {
-        Some(s) => s.is_terminal(),
-        None => false,
-    }
+    state.is_some_and(|s| s.is_terminal())
 }
 
 // What is known after a state is told: an outcome that was told before stays (Part 3, 3.4).
@@ -50,10 +41,10 @@ pub fn record_state(
     if is_terminal(known) { known } else { told }
 }
 
-impl Outcome {
-    pub fn from_state(state: Option<DeliveryState>) -> Outcome
-        ensures { result ≡ outcome_of state }
-    {
+impl From<Option<DeliveryState>> for Outcome {
+    ghost from_gives = { λ s o. o ≡ outcome_of s };
+
+    fn from(state: Option<DeliveryState>) -> Outcome {
         match state {
             Some(s) => Outcome::State(s),
             None => Outcome::NoState,

@@ -1,9 +1,11 @@
 // Seats: where a delivery's outcome waits for its ticket.
-ghost use Rattle.std.specs.Prelude.{◌≡◌, ◌<◌, length, replicate, is_some, IfSome, None};
+ghost use Rattle.std.specs.Prelude.{◌≡◌, ◌<◌, length, replicate, IfSome};
+ghost use Rattle.std.specs.List.{list_any, position};
 ghost use Rattle.link.specs.declared.seat.Seat.TheVariants.{Free};
-ghost use Rattle.link.specs.Seats.{is_free, wanted, told, place_by, seated, sit, tell, vacate, seat_of};
+ghost use Rattle.link.specs.Seats.{is_free, sits, told, seated, sit, tell, vacate, seat_answer};
 
-use crate::delivery::{Outcome, Progress};
+use crate::delivery::Outcome;
+use amqp::error::TicketError;
 
 // A number is that of the delivery's ticket.
 #[derive(Clone, Copy)]
@@ -13,46 +15,38 @@ pub enum Seat {
     Ended(u32, Outcome),
 }
 
-// The seats of a link, in lent memory.
+// The seats of a link, searched in order in lent memory.
 #[derive(Drop)]
 pub struct Seats<'a> {
     seats: &'a mut [Seat],
 }
 
 impl Seat {
-    // Whether it is the seat of a number, or without one is free.
-    fn is_for(&self, number: Option<u32>) -> bool
-        ensures { result ≡ wanted number self.now }
+    fn is_free(&self) -> bool
+        ensures { result ≡ is_free self.now }
     {
-        match (self, number) {
-            (Seat::Free, None) => true,
-            (Seat::Pending(n), Some(number)) => *n == number,
-            (Seat::Ended(n, _), Some(number)) => *n == number,
-            _ => false,
+        matches!(self, Seat::Free)
+    }
+
+    // It is the seat of a number.
+    fn is_of(&self, number: u32) -> bool
+        ensures { result ≡ sits number self.now }
+    {
+        match self {
+            Seat::Free => false,
+            Seat::Pending(n) | Seat::Ended(n, _) => *n == number,
         }
     }
 
-    fn progress(&self) -> Progress
+    // How its delivery ended, if it has.
+    fn outcome(&self) -> Option<Outcome>
         ensures { result ≡ told self.now }
     {
         match self {
-            Seat::Ended(_, outcome) => Progress::Ended(*outcome),
-            _ => Progress::Pending,
+            Seat::Ended(_, outcome) => Some(*outcome),
+            _ => None,
         }
     }
-}
-
-// The first seat of a number, or without one the first free seat.
-fn first(seats: &[Seat], number: Option<u32>) -> Option<usize>
-    ensures found { result ≡ place_by (wanted number) seats.now }
-    ensures within { IfSome result (λ i. i < length seats.now) }
-{
-    for i in 0..seats.len() {
-        if seats[i].is_for(number) {
-            return Some(i);
-        }
-    }
-    None
 }
 
 impl<'a> Seats<'a> {
@@ -64,64 +58,66 @@ impl<'a> Seats<'a> {
         Seats { seats }
     }
 
-    fn find(&self, number: Option<u32>) -> Option<usize>
-        ensures found { result ≡ place_by (wanted number) (seated self.now) }
+    // The first free seat.
+    fn free(&self) -> Option<usize>
+        ensures found { result ≡ position is_free (seated self.now) }
         ensures within { IfSome result (λ i. i < length (seated self.now)) }
     {
-        first(self.seats, number)
+        self.seats.iter().position(|seat| seat.is_free())
+    }
+
+    // The seat of a number.
+    fn find(&self, number: u32) -> Option<usize>
+        ensures found { result ≡ position (sits number) (seated self.now) }
+        ensures within { IfSome result (λ i. i < length (seated self.now)) }
+    {
+        self.seats.iter().position(|seat| seat.is_of(number))
     }
 
     pub fn has_free(&self) -> bool
-        ensures { result ≡ is_some (place_by is_free (seated self.now)) }
+        ensures { result ≡ list_any is_free (seated self.now) }
     {
-        self.find(None).is_some()
+        self.seats.iter().any(|seat| seat.is_free())
     }
 
     // The first free seat waits for this delivery's outcome.
+    #[tactic(auto, using(crate::proofs::Places::written_at, crate::proofs::Places::written_nowhere))]
     pub fn sit(&mut self, number: u32)
         ensures { seated self.new ≡ sit number (seated self.old) }
     {
-        match self.find(None) {
-            Some(i) => self.seats[i] = Seat::Pending(number),
-            None => {}
+        if let Some(i) = self.free() {
+            self.seats[i] = Seat::Pending(number);
         }
     }
 
     // The delivery's seat, if its ticket was not collected before, keeps the outcome.
+    #[tactic(auto, using(crate::proofs::Places::written_at, crate::proofs::Places::written_nowhere))]
     pub fn tell(&mut self, number: u32, outcome: Outcome)
         ensures { seated self.new ≡ tell number outcome (seated self.old) }
     {
-        match self.find(Some(number)) {
-            Some(i) => self.seats[i] = Seat::Ended(number, outcome),
-            None => {}
+        if let Some(i) = self.find(number) {
+            self.seats[i] = Seat::Ended(number, outcome);
         }
     }
 
-    // What the seat of a number tells, if there is one.
-    pub fn look(&self, number: u32) -> Option<Progress>
-        ensures { result ≡ seat_of number (seated self.now) }
+    // How the delivery of a number ended, or none while it has not.
+    pub fn look(&self, number: u32) -> Result<Option<Outcome>, TicketError>
+        ensures { result ≡ seat_answer number (seated self.now) }
     {
-        match self.find(Some(number)) {
-            Some(i) => {
-                let seat = self.seats[i];
-                Some(seat.progress())
-            }
-            None => None,
-        }
+        let i = self.find(number).ok_or(TicketError::NoSeat)?;
+        let seat = self.seats[i];
+        Ok(seat.outcome())
     }
 
     // Frees the seat of a number, and answers what it told.
-    pub fn vacate(&mut self, number: u32) -> Option<Progress>
-        ensures answer { result ≡ seat_of number (seated self.old) }
+    #[tactic(auto, using(crate::proofs::Places::written_at, crate::proofs::Places::written_nowhere))]
+    pub fn vacate(&mut self, number: u32) -> Result<Option<Outcome>, TicketError>
+        ensures answer { result ≡ seat_answer number (seated self.old) }
         ensures after { seated self.new ≡ vacate number (seated self.old) }
     {
-        match self.find(Some(number)) {
-            Some(i) => {
-                let seat = self.seats[i];
-                self.seats[i] = Seat::Free;
-                Some(seat.progress())
-            }
-            None => None,
-        }
+        let i = self.find(number).ok_or(TicketError::NoSeat)?;
+        let seat = self.seats[i];
+        self.seats[i] = Seat::Free;
+        Ok(seat.outcome())
     }
 }

@@ -8,7 +8,7 @@ use amqp::mode::{ReceiverSettleMode, SenderSettleMode};
 pub struct Settings {
     pub snd_settle_mode: SenderSettleMode,
     pub rcv_settle_mode: ReceiverSettleMode,
-    // The longest message, or 0 for no limit.
+    // The longest message, or 0 for no limit, as attaches have it on the wire (Part 2, 2.7.3).
     pub max_message_size: u64,
     // The longest frame without the four bytes of its length.
     pub max_frame_size: usize,
@@ -49,10 +49,10 @@ impl Settings {
     pub fn conflicts_with(&self, peer: SenderSettleMode) -> bool
         ensures { result ≡ conflict self.now.snd_settle_mode peer }
     {
-        match (self.snd_settle_mode, peer) {
+        matches!(
+            (self.snd_settle_mode, peer),
             (SenderSettleMode::Settled, SenderSettleMode::Unsettled)
-            | (SenderSettleMode::Unsettled, SenderSettleMode::Settled) => true,
-            _ => false,
-        }
+                | (SenderSettleMode::Unsettled, SenderSettleMode::Settled)
+        )
     }
 }

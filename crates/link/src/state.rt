@@ -15,7 +15,7 @@
 ghost use Rattle.std.specs.Prelude.{◌≡◌};
 ghost use Rattle.link.specs.States.{after_open, after_attach, is_incomplete};
 
-#[derive(Clone, Copy)]
+#[derive(Clone, Copy, PartialEq, Eq)]
 pub enum LinkState {
     Unattached,
     AttachSent,
@@ -71,11 +71,11 @@ impl LinkState {
     pub fn is_incomplete(self) -> bool
         ensures { result ≡ is_incomplete self }
     {
-        match self {
+        matches!(
+            self,
             LinkState::IncompleteAttachSent
-            | LinkState::IncompleteAttachReceived
-            | LinkState::IncompleteAttachExchanged => true,
-            _ => false,
-        }
+                | LinkState::IncompleteAttachReceived
+                | LinkState::IncompleteAttachExchanged
+        )
     }
 }

@@ -1,8 +1,8 @@
 -- The entries of a number, and of a tag, under each move of a table.
-use Rattle.std.proofs.Common.{◌≡◌, ℕ, ◌+◌, ◌≤◌, Bool, true, false, cond, eqb, List, [], ◌∷◌, ◌++◌, length, Some, None, Option, sym, refl, ap, ◌∙◌, subst, true≢false, arith, length-append}
+use Rattle.std.proofs.Common.{◌≡◌, ℕ, ◌+◌, ◌≤◌, Bool, true, false, cond, eqb, List, [], ◌∷◌, ◌++◌, length, is_some, Some, None, sym, refl, ap, ◌∙◌, subst, true≢false, arith, length-append}
 use Rattle.amqp.specs.declared.tag.DeliveryTag.{DeliveryTag}
 use Rattle.unsettled.specs.declared.message.UnsettledMessage.{UnsettledMessage}
-use Rattle.unsettled.specs.Tables.{same_tag, place, later}
+use Rattle.unsettled.specs.Tables.{same_tag, look}
 use Rattle.link.specs.Views.{Entry}
 use Rattle.runs.specs.Lives.{of}
 use Rattle.runs.specs.Runs.{one}
@@ -21,15 +21,10 @@ pub tally_++ : (t : DeliveryTag) (xs ys : List Entry) → tally t (xs ++ ys) ≡
 tally_++ t [] ys = omega arith
 tally_++ t (x ∷ xs) ys = omega (arith, tally_++ t xs ys)
 
--- a tag that has no place has no entry
-pub tally_absent : (t : DeliveryTag) (xs : List Entry) → place t xs ≡ None → tally t xs ≡ 0
+-- a tag that no entry has
+pub tally_absent : (t : DeliveryTag) (xs : List Entry) → is_some (look t xs) ≡ false → tally t xs ≡ 0
 tally_absent t [] h = refl
-tally_absent t (x ∷ xs) h = go (same_tag x.tag t) (place t xs) refl h (tally_absent t xs)
-  where
-    go : (b : Bool) (o : Option ℕ) → place t xs ≡ o → cond b (Some 0) (later o) ≡ None → (place t xs ≡ None → tally t xs ≡ 0) → one b + tally t xs ≡ 0
-    go true o q f ih = let z : ◌≡◌ {A = ℕ} 0 1 = cc in absurd (omega arith)
-    go false None q f ih = omega (arith, ih q)
-    go false (Some i) q f ih = let z : ◌≡◌ {A = ℕ} 0 1 = cc in absurd (omega arith)
+tally_absent t (x ∷ xs) h = let ih = tally_absent t xs in grind arith
 
 tally_last : (t : DeliveryTag) (x : Entry) (xs : List Entry) → one (same_tag (last x xs).tag t) + tally t (but_last x xs) ≡ tally t (x ∷ xs)
 tally_last t x [] = refl
@@ -66,16 +61,16 @@ of_filled n (x ∷ xs) h =
 -- ---- the entry that a tag finds
 
 pub found_tag : (t : DeliveryTag) (x : Entry) (xs : List Entry) → found t xs ≡ Some x → same_tag x.tag t ≡ true
-found_tag t x [] h = let z : ◌≡◌ {A = ℕ} 0 1 = cc in absurd (omega arith)
+found_tag t x [] h = absurd (cc)
 found_tag t x (y ∷ xs) h = let ih = found_tag t x xs in grind arith
 
 pub found_none : (t : DeliveryTag) (n : ℕ) (e : Entry) (xs ys : List Entry) → found t xs ≡ None → of n xs ≡ e ∷ ys → same_tag e.tag t ≡ false
-found_none t n e [] ys h k = let z : ◌≡◌ {A = ℕ} 0 1 = cc in absurd (omega arith)
+found_none t n e [] ys h k = absurd (cc)
 found_none t n e (x ∷ xs) ys h k = go (same_tag x.tag t) (eqb n x.entry.ticket) refl h k (found_none t n e xs ys)
   where
     go : (b c : Bool) → same_tag x.tag t ≡ b → cond b (Some x) (found t xs) ≡ None → cond c (x ∷ of n xs) (of n xs) ≡ e ∷ ys
         → (found t xs ≡ None → of n xs ≡ e ∷ ys → same_tag e.tag t ≡ false) → same_tag e.tag t ≡ false
-    go true c q f k' ih = let z : ◌≡◌ {A = ℕ} 0 1 = cc in absurd (omega arith)
+    go true c q f k' ih = absurd (cc)
     go false true q f k' ih = let z : x ≡ e = cc in subst (λ (y : Entry). same_tag y.tag t ≡ false) z q
     go false false q f k' ih = ih f k'
 
@@ -103,7 +98,7 @@ without_other t n x (y ∷ xs) h k w = go (same_tag y.tag t) (eqb n y.entry.tick
 -- it has the number, and is the only one
 pub found_has : (t : DeliveryTag) (n : ℕ) (x : Entry) (xs : List Entry) → found t xs ≡ Some x → eqb n x.entry.ticket ≡ true
     → 1 ≤ length (of n xs)
-found_has t n x [] h k = let z : ◌≡◌ {A = ℕ} 0 1 = cc in absurd (omega arith)
+found_has t n x [] h k = absurd (cc)
 found_has t n x (y ∷ xs) h k = let ih = found_has t n x xs in grind arith
 
 -- what the first slot of a table with one entry of the number says of the rest
@@ -124,14 +119,14 @@ module _ (t : DeliveryTag) (n : ℕ) (x e y : Entry) (xs : List Entry) where
   split k false false q f w here there = there refl refl f w
 
 pub found_one : (t : DeliveryTag) (n : ℕ) (x e : Entry) (xs : List Entry) → found t xs ≡ Some x → eqb n x.entry.ticket ≡ true → of n xs ≡ e ∷ [] → x ≡ e
-found_one t n x e [] h k w = let z : ◌≡◌ {A = ℕ} 0 1 = cc in absurd (omega arith)
+found_one t n x e [] h k w = absurd (cc)
 found_one t n x e (y ∷ xs) h k w =
     split t n x e y xs k (same_tag y.tag t) (eqb n y.entry.ticket) refl h w
     (λ b c z u v. sym z ∙ u) (λ b c f w'. found_one t n x e xs f k w')
 
 pub exchange_it : (t : DeliveryTag) (m : UnsettledMessage) (n : ℕ) (x : Entry) (xs : List Entry) → found t xs ≡ Some x → m.ticket ≡ x.entry.ticket → eqb n x.entry.ticket ≡ true
     → of n xs ≡ x ∷ [] → of n (exchanged t m xs) ≡ record { tag = t; entry = m } ∷ []
-exchange_it t m n x [] h q k w = let z : ◌≡◌ {A = ℕ} 0 1 = cc in absurd (omega arith)
+exchange_it t m n x [] h q k w = absurd (cc)
 exchange_it t m n x (y ∷ xs) h q k w =
     split t n x x y xs k (same_tag y.tag t) (eqb n y.entry.ticket) refl h w
     (λ b c z u v. rw b (let j : eqb n m.ticket ≡ true = ap (eqb n) q ∙ k in rw j (ap (λ r. record { tag = t; entry = m } ∷ r) v)))
@@ -148,11 +143,11 @@ without_it t n x (y ∷ xs) h k w =
 -- another with the same tag: not where a tag is there once
 pub found_other : (t : DeliveryTag) (n : ℕ) (x e : Entry) (xs : List Entry) → found t xs ≡ Some x → eqb n x.entry.ticket ≡ false
     → of n xs ≡ e ∷ [] → tally t xs ≤ 1 → same_tag e.tag t ≡ false
-found_other t n x e [] h k w u = let z : ◌≡◌ {A = ℕ} 0 1 = cc in absurd (omega arith)
+found_other t n x e [] h k w u = absurd (cc)
 found_other t n x e (y ∷ xs) h k w u = go (same_tag y.tag t) (eqb n y.entry.ticket) refl refl h w u (found_other t n x e xs)
   where
     none_of : (xs : List Entry) → of n xs ≡ e ∷ [] → tally t xs ≡ 0 → same_tag e.tag t ≡ false
-    none_of [] h' k' = let z : ◌≡◌ {A = ℕ} 0 1 = cc in absurd (omega arith)
+    none_of [] h' k' = absurd (cc)
     none_of (y ∷ ys) h' k' = let ih = none_of ys in grind arith
 
     go : (b c : Bool) → same_tag y.tag t ≡ b → eqb n y.entry.ticket ≡ c → cond b (Some y) (found t xs) ≡ Some x

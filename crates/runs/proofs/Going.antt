@@ -3,6 +3,7 @@ use Rattle.std.proofs.Common.{◌≡◌, ℕ, zero, suc, ◌+◌, ◌-◌, ◌*�
 use Rattle.std.specs.List.{range_with_len}
 use Rattle.std.proofs.lemmas.List.{length-take, length-drop}
 use Rattle.std.proofs.lemmas.Bool.{lt-ltb, le-ltb}
+use Rattle.std.specs.Option.{unwrap_or}
 use Rattle.amqp.specs.declared.error.SendError.{SendError}
 use Rattle.amqp.specs.declared.header.FrameKind.{FrameKind}
 use Rattle.amqp.specs.declared.header.FrameKind.TheVariants.{First, Continuation}
@@ -11,7 +12,6 @@ use Rattle.sink.specs.Cuts.{count_of, kind_at, part, frame_at, frames_of}
 use Rattle.sink.proofs.Cutting.{whole, part_fits}
 use Rattle.link.specs.declared.delivery.Sendable.{Sendable}
 use Rattle.link.specs.Calls.{Call, Open, Attach, Flow, Send, Disposition, Look, Collect, put_by}
-use Rattle.link.specs.Credit.{or_else}
 use Rattle.link.specs.Rows.{unless}
 use Rattle.link.specs.Sending.{Carrier, payload, transfer_of, share_for, send_refusal, sent_frames}
 use Rattle.link.specs.Views.{View}
@@ -47,7 +47,7 @@ laid t handle share msg =
 puts_message : (v : View) (c : Carrier) (m : Sendable) → send_refusal v c m ≡ None → PutsMessage v c m (sent_frames v c m)
 puts_message v c m h =
     record {
-      laid = laid (transfer_of v m) (or_else v.input 0) (max 1 (share_for v c m)) (payload c m);
+      laid = laid (transfer_of v m) (unwrap_or v.input 0) (max 1 (share_for v c m)) (payload c m);
       carries = λ w. carries v c m w (clear v c m (own_clear v c m h));
     }
 

@@ -16,7 +16,7 @@ use Rattle.link.specs.Turns.{Turn, End}
 use Rattle.link.specs.Views.{View, Held, Entry}
 use Rattle.runs.specs.Lives.{in_table, in_resume_list, in_resend_list, Life, unborn, standing, over, sent_life, disposed_life, of, listed, stands_in, AsLived, born}
 use Rattle.runs.specs.Runs.{one}
-use Rattle.runs.proofs.Tables.{found, look_found, put_found, swap_found}
+use Rattle.runs.proofs.Tables.{found, put_found, swap_found}
 use Rattle.runs.proofs.Entries.{tally, of_++, found_tag, found_none, exchange_other, without_other, found_has, found_one, exchange_it, without_it, found_other}
 
 -- the outcome that a life ended with
@@ -190,16 +190,16 @@ module _ (v : View) (n : ℕ) (t : DeliveryTag) (s : Option DeliveryState) where
           settled_other b x y f k h (other_tag t s b y (λ e q. found_other t n x e v.held.table f k (h.table ∙ ap (stands_in in_table) q) u))
 
   pub disposed_onward : (b : Bool) (y : Life) → tally t v.held.table ≤ 1 → AsLived n y v.held → Onward n y (disposed v t b s) (after_disposal t s (b || ended s) y)
-  disposed_onward b y u h = go (found t v.held.table) refl (look_found t v.held.table)
+  disposed_onward b y u h = go (found t v.held.table) refl
     where
-      go : (o : Option Entry) → found t v.held.table ≡ o → look t v.held.table ≡ entry_of (found t v.held.table) → Onward n y (disposed v t b s) (after_disposal t s (b || ended s) y)
-      go None f l =
-          let e : look t v.held.table ≡ None = l ∙ ap entry_of f in
+      go : (o : Option Entry) → found t v.held.table ≡ o → Onward n y (disposed v t b s) (after_disposal t s (b || ended s) y)
+      go None f =
+          let e : look t v.held.table ≡ None = ap entry_of f in
           subst (λ (o : Option UnsettledMessage). Onward n y (disposed_at o t b s v) (after_disposal t s (b || ended s) y)) (sym e)
           (unmoved n y v.held (disposed_at None t b s v) (after_disposal t s (b || ended s) y) h
           (other_tag t s (b || ended s) y (λ x q. found_none t n x v.held.table [] f (h.table ∙ ap (stands_in in_table) q)))
           refl refl refl refl refl)
-      go (Some x) f l =
-          let e : look t v.held.table ≡ Some x.entry = l ∙ ap entry_of f in
+      go (Some x) f =
+          let e : look t v.held.table ≡ Some x.entry = ap entry_of f in
           subst (λ (o : Option UnsettledMessage). Onward n y (disposed_at o t b s v) (after_disposal t s (b || ended s) y)) (sym e)
           (found_onward (b || ended s) y x f u h)

@@ -1,21 +1,20 @@
 -- What the seats tell when deliveries sit down, end and leave.
-use Rattle.std.proofs.Common.{◌≡◌, ℕ, ◌≤◌, true, false, cond, eqb, List, [], ◌∷◌, ◌++◌, length, is_some, Some, None, Option, sym, refl, true≢false, arith}
+use Rattle.std.proofs.Common.{◌≡◌, ℕ, ◌≤◌, true, false, cond, eqb, List, [], ◌∷◌, ◌++◌, length, Some, None, Option, sym, refl, true≢false, arith}
+use Rattle.std.specs.List.{list_any}
 use Rattle.std.proofs.lemmas.Bool.Decides.{nat_tests}
 use Rattle.link.specs.declared.delivery.Outcome.{Outcome}
-use Rattle.link.specs.declared.delivery.Progress.{Progress}
-use Rattle.link.specs.declared.delivery.Progress.TheVariants as progress
 use Rattle.link.specs.declared.seat.Seat.{Seat}
 use Rattle.link.specs.declared.seat.Seat.TheVariants.{Free, Pending, Ended}
-use Rattle.link.specs.Seats.{is_free, place_by, later, sit, tell, vacate, seat_of}
+use Rattle.link.specs.Seats.{is_free, sit, tell, vacate, seat_of}
 use Rattle.link.specs.Turns.{End, sit_all, tell_all, vacate_all}
 use Rattle.runs.proofs.Onward.{among, outcomes}
 
 -- a seat that is taken tells how the delivery ended; one that is not stays so
-abbrev pub telling : Option Progress → Outcome → Option Progress
+abbrev pub telling : Option (Option Outcome) → Outcome → Option (Option Outcome)
 telling None o = None
-telling (Some x) o = Some (progress.Ended o)
+telling (Some x) o = Some (Some o)
 
-abbrev pub telling_all : Option Progress → List Outcome → Option Progress
+abbrev pub telling_all : Option (Option Outcome) → List Outcome → Option (Option Outcome)
 telling_all x [] = x
 telling_all x (o ∷ os) = telling_all (telling x o) os
 
@@ -42,16 +41,11 @@ seat_sit_others n (k ∷ ks) ss h =
     let j = seat_sit_other n k ss in
     grind arith
 
--- a free seat further on
-further : (o : Option ℕ) → is_some (later o) ≡ true → is_some o ≡ true
-further None h = h
-further (Some i) h = refl
-
-pub seat_sit : (n : ℕ) (ss : List Seat) → seat_of n ss ≡ None → is_some (place_by is_free ss) ≡ true → seat_of n (sit n ss) ≡ Some progress.Pending
+pub seat_sit : (n : ℕ) (ss : List Seat) → seat_of n ss ≡ None → list_any is_free ss ≡ true → seat_of n (sit n ss) ≡ Some None
 seat_sit n [] h f = absurd (true≢false (sym f))
 seat_sit n (Free ∷ ss) h f = grind (arith, nat_tests)
-seat_sit n (Pending j ∷ ss) h f = let ih = seat_sit n ss in let g = further (place_by is_free ss) f in grind (arith, nat_tests)
-seat_sit n (Ended j p ∷ ss) h f = let ih = seat_sit n ss in let g = further (place_by is_free ss) f in grind (arith, nat_tests)
+seat_sit n (Pending j ∷ ss) h f = let ih = seat_sit n ss in grind (arith, nat_tests)
+seat_sit n (Ended j p ∷ ss) h f = let ih = seat_sit n ss in grind (arith, nat_tests)
 
 seat_vacate : (n k : ℕ) (ss : List Seat) → eqb n k ≡ false → seat_of n (vacate k ss) ≡ seat_of n ss
 seat_vacate n k [] h = refl
@@ -79,9 +73,9 @@ telling_none [] = refl
 telling_none (o ∷ os) = telling_none os
 
 -- what is told after at most one outcome in all
-abbrev pub progress_of : List Outcome → Progress
-progress_of [] = progress.Pending
-progress_of (o ∷ os) = progress.Ended o
+abbrev pub progress_of : List Outcome → Option Outcome
+progress_of [] = None
+progress_of (o ∷ os) = Some o
 
 pub telling_progress : (os new : List Outcome) → length (os ++ new) ≤ 1 → telling_all (Some (progress_of os)) new ≡ Some (progress_of (os ++ new))
 telling_progress [] [] h = refl

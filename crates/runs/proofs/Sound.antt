@@ -1,9 +1,9 @@
 -- What every link of a run keeps: no tag stands twice in its table, and its count does not wrap.
-use Rattle.std.proofs.Common.{◌≡◌, ℕ, ◌+◌, ◌<◌, ◌≤◌, Bool, true, false, ◌||◌, [], ◌∷◌, ◌++◌, is_some, Some, None, Option, sym, refl, ap, ◌∙◌, subst, arith}
+use Rattle.std.proofs.Common.{◌≡◌, ℕ, ◌+◌, ◌<◌, ◌≤◌, Bool, true, false, ◌||◌, [], ◌∷◌, ◌++◌, Some, None, Option, sym, refl, ap, subst, arith}
 use Rattle.amqp.specs.declared.state.DeliveryState.{DeliveryState}
 use Rattle.amqp.specs.declared.tag.DeliveryTag.{DeliveryTag}
 use Rattle.unsettled.specs.declared.message.UnsettledMessage.{UnsettledMessage}
-use Rattle.unsettled.specs.Tables.{same_tag, look, entry_of, place}
+use Rattle.unsettled.specs.Tables.{same_tag, entry_of}
 use Rattle.unsettled.proofs.Same.{same_tag_decides}
 use Rattle.link.specs.declared.delivery.Sendable.{Sendable}
 use Rattle.link.specs.declared.flow.LinkFlowState.{LinkFlowState}
@@ -18,7 +18,7 @@ use Rattle.link.specs.Turns.{Turn, stay}
 use Rattle.link.specs.Views.{View, Entry}
 use Rattle.link.proofs.Sending.{clear, own_clear}
 use Rattle.runs.specs.Runs.{Run, made, ◌▹◌, after, one}
-use Rattle.runs.proofs.Tables.{found, look_found, put_found, swap_found}
+use Rattle.runs.proofs.Tables.{found, put_found, swap_found}
 use Rattle.runs.proofs.Entries.{tally, tally_++, tally_absent, tally_without, tally_exchange}
 
 pub record Sound (v : View) : Type 0 where
@@ -54,18 +54,17 @@ drained_span false credit f h = (h, omega arith)
 
 -- an entry of the next tag, where that is not there
 one_more : (v : View) (m : Sendable) (t : DeliveryTag) → Sound v → tag_there (next_tag v) v ≡ false → tally t (v.held.table ++ first_sent v m ∷ []) ≤ 1
-one_more v m t h a = go (same_tag (next_tag v) t) refl (place (next_tag v) v.held.table) refl a
+one_more v m t h a = go (same_tag (next_tag v) t) refl
   where
     sum : tally t (v.held.table ++ first_sent v m ∷ []) ≡ tally t v.held.table + (one (same_tag (next_tag v) t) + 0)
     sum = tally_++ t v.held.table (first_sent v m ∷ [])
 
-    go : (b : Bool) → same_tag (next_tag v) t ≡ b → (o : Option ℕ) → place (next_tag v) v.held.table ≡ o → is_some o ≡ false → tally t (v.held.table ++ first_sent v m ∷ []) ≤ 1
-    go false q o p n = omega (arith, sum, ap one q, h.single t)
-    go true q None p n =
+    go : (b : Bool) → same_tag (next_tag v) t ≡ b → tally t (v.held.table ++ first_sent v m ∷ []) ≤ 1
+    go false q = omega (arith, sum, ap one q, h.single t)
+    go true q =
         let e : next_tag v ≡ t = (same_tag_decides (next_tag v) t).0 q in
-        let z : tally t v.held.table ≡ 0 = subst (λ (u : DeliveryTag). tally u v.held.table ≡ 0) e (tally_absent (next_tag v) v.held.table p) in
+        let z : tally t v.held.table ≡ 0 = subst (λ (u : DeliveryTag). tally u v.held.table ≡ 0) e (tally_absent (next_tag v) v.held.table a) in
         omega (arith, sum, ap one q)
-    go true q (Some i) p n = let z : ◌≡◌ {A = Bool} true false = n in let w : ◌≡◌ {A = ℕ} 0 1 = cc in absurd (omega arith)
 
 sent_steady : (v : View) (c : Carrier) (m : Sendable) (b : Bool) → Sound v → 0 < v.flow.link_credit → (b ≡ false → tag_there (next_tag v) v ≡ false) → Steady v (sent_as b v m)
 sent_steady v c m true h k a = record { single = h.single; span = omega (arith, h.span); rises = omega (arith, h.span) }
@@ -90,11 +89,11 @@ disposed_found v t false s x f h =
     }
 
 disposed_steady : (v : View) (t : DeliveryTag) (b : Bool) (s : Option DeliveryState) → Sound v → Steady v (disposed v t b s)
-disposed_steady v t b s h = go (found t v.held.table) refl (look_found t v.held.table)
+disposed_steady v t b s h = go (found t v.held.table) refl
   where
-    go : (o : Option Entry) → found t v.held.table ≡ o → look t v.held.table ≡ entry_of (found t v.held.table) → Steady v (disposed v t b s)
-    go None f l = subst (λ (o : Option UnsettledMessage). Steady v (disposed_at o t b s v)) (sym (l ∙ ap entry_of f)) (still v (stay v) h refl refl)
-    go (Some x) f l = subst (λ (o : Option UnsettledMessage). Steady v (disposed_at o t b s v)) (sym (l ∙ ap entry_of f)) (disposed_found v t (b || ended s) s x f h)
+    go : (o : Option Entry) → found t v.held.table ≡ o → Steady v (disposed v t b s)
+    go None f = subst (λ (o : Option UnsettledMessage). Steady v (disposed_at o t b s v)) (sym (ap entry_of f)) (still v (stay v) h refl refl)
+    go (Some x) f = subst (λ (o : Option UnsettledMessage). Steady v (disposed_at o t b s v)) (sym (ap entry_of f)) (disposed_found v t (b || ended s) s x f h)
 
 pub steady : (v : View) (c : Call) → Sound v → Steady v (turn v c)
 steady v (Open handle incomplete) h = either (Steady v) (open_refusal v incomplete) (stay v) (opened v handle incomplete) (λ _. still v (opened v handle incomplete) h refl refl) (still v (stay v) h refl refl)

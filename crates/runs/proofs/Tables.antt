@@ -1,21 +1,22 @@
 -- A table's moves by recursion over its slots: what a tag finds, replaces and takes out.
-use Rattle.std.proofs.Common.{◌≡◌, ℕ, suc, Bool, true, false, cond, List, [], ◌∷◌, ◌++◌, length, get_or, take, set, Some, None, Option, refl, ap, ◌∙◌, ap₂, arith}
-use Rattle.std.specs.List.{slice_get}
+use Rattle.std.proofs.Common.{◌≡◌, ℕ, suc, Bool, true, false, cond, List, [], ◌∷◌, ◌++◌, length, get_or, take, set, is_some, Some, None, Option, refl, ap, ◌∙◌, ap₂, arith}
+use Rattle.std.specs.List.{find}
+use Rattle.std.specs.Option.{option_map, unwrap_or}
 use Rattle.std.proofs.lemmas.List.{get_or_default}
 use Rattle.amqp.specs.declared.tag.DeliveryTag.{DeliveryTag}
-use Rattle.unsettled.specs.Tables.{same_tag, later, place, by_place, entry_of, look, put_in, swap_out, swap_removed}
+use Rattle.unsettled.specs.Lists.{replaced}
+use Rattle.unsettled.specs.Tables.{same_tag, has_tag, place, entry_of, put_in, swap_out, swap_removed}
+use Rattle.unsettled.proofs.Firsts.{position-cons}
 use Rattle.unsettled.specs.declared.message.UnsettledMessage.{UnsettledMessage}
 use Rattle.link.specs.Views.{Entry}
 
 -- the entry of a tag
 abbrev pub found : DeliveryTag → List Entry → Option Entry
-found t [] = None
-found t (x ∷ xs) = cond (same_tag x.tag t) (Some x) (found t xs)
+found t xs = find (has_tag t) xs
 
 -- it is replaced
 abbrev pub exchanged : DeliveryTag → UnsettledMessage → List Entry → List Entry
-exchanged t m [] = []
-exchanged t m (x ∷ xs) = cond (same_tag x.tag t) (record { tag = t; entry = m } ∷ xs) (x ∷ exchanged t m xs)
+exchanged t m xs = replaced (has_tag t) (record { tag = t; entry = m }) xs
 
 -- the last takes its place
 abbrev pub last : Entry → List Entry → Entry
@@ -34,33 +35,9 @@ abbrev pub without : DeliveryTag → List Entry → List Entry
 without t [] = []
 without t (x ∷ xs) = cond (same_tag x.tag t) (filled xs) (x ∷ without t xs)
 
-looking : (t : DeliveryTag) (xs : List Entry) (o : Option ℕ) (b : Bool) (x : Entry) → by_place (cond b (Some 0) (later o)) None (λ i. entry_of (slice_get (x ∷ xs) i)) ≡ cond b (Some x.entry) (by_place o None (λ i. entry_of (slice_get xs i)))
-looking t xs None true x = refl
-looking t xs None false x = refl
-looking t xs (Some i) true x = refl
-looking t xs (Some i) false x = refl
-
-pub look_found : (t : DeliveryTag) (xs : List Entry) → look t xs ≡ entry_of (found t xs)
-look_found t [] = refl
-look_found t (x ∷ xs) = looking t xs (place t xs) (same_tag x.tag t) x ∙ go (same_tag x.tag t) (look_found t xs)
-  where
-    go : (b : Bool) → look t xs ≡ entry_of (found t xs) → cond b (Some x.entry) (look t xs) ≡ entry_of (cond b (Some x) (found t xs))
-    go true h = refl
-    go false h = h
-
 -- a present tag's entry is replaced
 pub put_found : (t : DeliveryTag) (m : UnsettledMessage) (xs : List Entry) (e : Entry) → found t xs ≡ Some e → put_in t m xs ≡ exchanged t m xs
-put_found t m [] e h = let z : ◌≡◌ {A = ℕ} 0 1 = cc in absurd (omega arith)
-put_found t m (x ∷ xs) e h = go (same_tag x.tag t) (place t xs) h (put_found t m xs e)
-  where
-    go : (b : Bool) (o : Option ℕ) → cond b (Some x) (found t xs) ≡ Some e
-        → (found t xs ≡ Some e → by_place o (xs ++ record { tag = t; entry = m } ∷ []) (λ i. set xs i (record { tag = t; entry = m })) ≡ exchanged t m xs)
-        → by_place (cond b (Some 0) (later o)) ((x ∷ xs) ++ record { tag = t; entry = m } ∷ []) (λ i. set (x ∷ xs) i (record { tag = t; entry = m }))
-        ≡ cond b (record { tag = t; entry = m } ∷ xs) (x ∷ exchanged t m xs)
-    go true None f ih = refl
-    go true (Some i) f ih = refl
-    go false None f ih = ap (λ l. x ∷ l) (ih f)
-    go false (Some i) f ih = ap (λ l. x ∷ l) (ih f)
+put_found t m xs e h = ap (λ b. cond b (exchanged t m xs) (xs ++ record { tag = t; entry = m } ∷ [])) (ap (λ o. is_some (entry_of o)) h)
 
 -- past the length the default does not matter
 at_last : (x y : Entry) (xs : List Entry) → get_or (y ∷ xs) (length xs) x ≡ get_or (y ∷ xs) (length xs) y
@@ -84,12 +61,13 @@ swapped_later x y ys i = ap (λ a. x ∷ take (length ys) (set (y ∷ ys) i a)) 
 
 pub swap_found : (t : DeliveryTag) (xs : List Entry) (e : Entry) → found t xs ≡ Some e → swap_removed t xs ≡ without t xs
 swap_found t [] e h = refl
-swap_found t (x ∷ xs) e h = go (same_tag x.tag t) (place t xs) xs refl h (swap_found t xs e)
+swap_found t (x ∷ xs) e h =
+    ap (λ o. unwrap_or (option_map (λ i. swap_out i (x ∷ xs)) o) (x ∷ xs)) (position-cons (has_tag t) x xs)
+    ∙ go (same_tag x.tag t) (place t xs) xs h (swap_found t xs e)
   where
-    go : (b : Bool) (o : Option ℕ) (ys : List Entry) → xs ≡ ys → cond b (Some x) (found t ys) ≡ Some e → (found t ys ≡ Some e → by_place o ys (λ i. swap_out i ys) ≡ without t ys)
-        → by_place (cond b (Some 0) (later o)) (x ∷ ys) (λ i. swap_out i (x ∷ ys)) ≡ cond b (filled ys) (x ∷ without t ys)
-    go true None ys q f ih = swapped_first x ys
-    go true (Some i) ys q f ih = swapped_first x ys
-    go false None ys q f ih = ap (λ l. x ∷ l) (ih f)
-    go false (Some i) [] q f ih = let z : ◌≡◌ {A = ℕ} 0 1 = cc in absurd (omega arith)
-    go false (Some i) (y ∷ ys) q f ih = swapped_later x y ys i ∙ ap (λ l. x ∷ l) (ih f)
+    go : (b : Bool) (o : Option ℕ) (ys : List Entry) → cond b (Some x) (found t ys) ≡ Some e → (found t ys ≡ Some e → unwrap_or (option_map (λ i. swap_out i ys) o) ys ≡ without t ys)
+        → unwrap_or (option_map (λ i. swap_out i (x ∷ ys)) (cond b (Some 0) (option_map suc o))) (x ∷ ys) ≡ cond b (filled ys) (x ∷ without t ys)
+    go true o ys f ih = swapped_first x ys
+    go false None ys f ih = ap (λ l. x ∷ l) (ih f)
+    go false (Some i) [] f ih = absurd (cc)
+    go false (Some i) (y ∷ ys) f ih = swapped_later x y ys i ∙ ap (λ l. x ∷ l) (ih f)

@@ -1,16 +1,18 @@
 -- What the seats tell is what the lives say.
-use Rattle.std.proofs.Common.{◌≡◌, ℕ, zero, suc, ◌+◌, ◌≤◌, Bool, true, false, eqb, List, [], ◌∷◌, ◌++◌, length, replicate, is_some, Some, None, Ok, Option, sym, refl, ap, ◌∙◌, arith}
+use Rattle.std.proofs.Common.{◌≡◌, ℕ, zero, suc, ◌+◌, ◌≤◌, Bool, true, false, eqb, List, [], ◌∷◌, ◌++◌, length, replicate, Some, None, Ok, Option, sym, refl, ap, ◌∙◌, arith}
 use Rattle.std.proofs.lemmas.Bool.{not-false, eqb-true}
+use Rattle.std.specs.List.{list_any}
+use Rattle.std.specs.Option.{ok_or}
 use Rattle.amqp.specs.declared.error.SendError.{SendError}
+use Rattle.amqp.specs.declared.error.TicketError.TheVariants.{NoSeat}
 use Rattle.link.specs.declared.delivery.Outcome.{Outcome}
-use Rattle.link.specs.declared.delivery.Progress.TheVariants.{Pending}
 use Rattle.link.specs.declared.delivery.Sendable.{Sendable}
 use Rattle.link.specs.declared.seat.Seat.TheVariants.{Free}
 use Rattle.link.specs.Attaching.{open_refusal, opened, attach_refusal, attached}
 use Rattle.link.specs.Calls.{Call, Open, Attach, Flow, Send, Disposition, Look, Collect, turn}
-use Rattle.link.specs.Disposing.{looked, seat_answer}
+use Rattle.link.specs.Disposing.{looked}
 use Rattle.link.specs.Rows.{unless}
-use Rattle.link.specs.Seats.{seat_of, place_by, is_free}
+use Rattle.link.specs.Seats.{seat_of, is_free}
 use Rattle.link.specs.Sending.{Carrier, goes_settled, next_number, send_refusal, sent, sent_as}
 use Rattle.link.specs.Turns.{stay, sit_all, tell_all}
 use Rattle.link.specs.Views.{View}
@@ -38,22 +40,22 @@ spends_spent v (Collect k) n = omega arith
 
 -- a delivery that begins finds a seat
 sits : (v : View) (c : Carrier) (m : Sendable) (n : ℕ) (o : Option SendError) → send_refusal v c m ≡ o → seat_of n v.seats ≡ None
-    → among n (unless o (stay v) (sent v m)).begun ≡ 1 → seat_of n (sit_all (unless o (stay v) (sent v m)).begun v.seats) ≡ Some Pending
+    → among n (unless o (stay v) (sent v m)).begun ≡ 1 → seat_of n (sit_all (unless o (stay v) (sent v m)).begun v.seats) ≡ Some None
 sits v c m n (Some e) q h a = absurd (omega arith)
 sits v c m n None q h a = go (goes_settled v m) refl a
   where
-    go : (b : Bool) → goes_settled v m ≡ b → among n (sent_as b v m).begun ≡ 1 → seat_of n (sit_all (sent_as b v m).begun v.seats) ≡ Some Pending
+    go : (b : Bool) → goes_settled v m ≡ b → among n (sent_as b v m).begun ≡ 1 → seat_of n (sit_all (sent_as b v m).begun v.seats) ≡ Some None
     go true e w = absurd (omega arith)
     go false e w = at (eqb n (next_number v)) refl w
       where
-        at : (b : Bool) → eqb n (next_number v) ≡ b → one b + 0 ≡ 1 → seat_of n (sit_all (next_number v ∷ []) v.seats) ≡ Some Pending
+        at : (b : Bool) → eqb n (next_number v) ≡ b → one b + 0 ≡ 1 → seat_of n (sit_all (next_number v ∷ []) v.seats) ≡ Some None
         at true k z =
-            let f = not-false (is_some (place_by is_free v.seats)) ((clear v c m (own_clear v c m q)).seat e) in
+            let f = not-false (list_any is_free v.seats) ((clear v c m (own_clear v c m q)).seat e) in
             ap (λ j. seat_of n (sit_all (j ∷ []) v.seats)) (sym (eqb-true n (next_number v) k)) ∙ seat_sit n v.seats h f
         at false k z = absurd (omega arith)
 
 -- whatever call: one that begins the number's delivery
-sits_down : (v : View) (c : Call) (n : ℕ) → seat_of n v.seats ≡ None → among n (turn v c).begun ≡ 1 → seat_of n (sit_all (turn v c).begun v.seats) ≡ Some Pending
+sits_down : (v : View) (c : Call) (n : ℕ) → seat_of n v.seats ≡ None → among n (turn v c).begun ≡ 1 → seat_of n (sit_all (turn v c).begun v.seats) ≡ Some None
 sits_down v (Open handle incomplete) n h a = absurd (omega (arith, begins_given v (Open handle incomplete) n))
 sits_down v (Attach r pool) n h a = absurd (omega (arith, begins_given v (Attach r pool) n))
 sits_down v (Flow i) n h a = absurd (omega arith)
@@ -79,7 +81,7 @@ telling_life x y os e =
     ap (λ p. telling_all (Some p) os) (sym (told_last x)) ∙ telling_progress (last_word x) os (omega (arith, ap length e, short y))
     ∙ ap (λ l. Some (progress_of l)) e ∙ ap Some (told_last y)
 
-no_word : (x : Life) → born x ≡ 0 → progress x ≡ Pending
+no_word : (x : Life) → born x ≡ 0 → progress x ≡ None
 no_word unborn h = refl
 no_word (standing w e) h = refl
 no_word (over o) h = absurd (omega arith)
@@ -107,7 +109,7 @@ module _ (n : ℕ) (r : Run) (c : Call) (h : Seated n r) where
 
       go : (s : ℕ) → given n r ≡ s → seat_of n (sit_all (turn (after r) c).begun (after r).seats) ≡ Some (progress (life r n))
       go zero q =
-          let y : progress (life r n) ≡ Pending = no_word (life r n) (omega (arith, (lived n r).births)) in
+          let y : progress (life r n) ≡ None = no_word (life r n) (omega (arith, (lived n r).births)) in
           sits_down (after r) c n (h.untaken q) (omega (arith, k)) ∙ ap Some (sym y)
       go (suc s) q = seat_sit_others n (turn (after r) c).begun (after r).seats (omega (arith, k)) ∙ h.taken (omega arith) z
 
@@ -129,4 +131,4 @@ seated n (made m) = record { untaken = λ _. unseated n m.seats; taken = λ e. a
 seated n (r ▹ c) = record { untaken = untaken' n r c (seated n r); taken = taken' n r c (seated n r) }
 
 pub tells : (n : ℕ) (r : Run) → given n r ≡ 1 → collected n r ≡ 0 → looked (after r) n ≡ Ok (progress (life r n))
-tells n r g z = ap seat_answer ((seated n r).taken g z)
+tells n r g z = ap (λ o. ok_or o NoSeat) ((seated n r).taken g z)

@@ -1,5 +1,6 @@
 -- What goes out: the frames of a call, by what they carry and how they fit, in words that name no cutting.
 use Rattle.std.specs.Prelude.{◌≡◌, ℕ, ◌≤◌, max, Bool, true, false, List, [], ◌∷◌, length}
+use Rattle.std.specs.Option.{unwrap_or}
 use Rattle.amqp.specs.declared.header.FrameKind.{FrameKind}
 use Rattle.amqp.specs.declared.header.FrameKind.TheVariants as kind
 use Rattle.amqp.specs.declared.header.Header.TheVariants as header
@@ -9,7 +10,6 @@ use Rattle.sink.specs.Cuts.{Carries}
 use Rattle.sink.specs.Frames.{Frame, frame}
 use Rattle.link.specs.declared.delivery.Sendable.{Sendable}
 use Rattle.link.specs.Calls.{Call, Open, Attach, Flow, Send, Disposition, Look, Collect, refused}
-use Rattle.link.specs.Credit.{or_else}
 use Rattle.link.specs.Sending.{Carrier, payload, transfer_of, share_for}
 use Rattle.link.specs.Views.{View}
 
@@ -32,7 +32,7 @@ Laid t handle width k (f ∷ (g ∷ fs)) =
 
 -- what an accepted send puts: the message, in frames that fit under any delivery id, for every encoder that keeps its law
 pub record PutsMessage (v : View) (c : Carrier) (m : Sendable) (fs : List Frame) : Type 0 where
-  pub laid : Laid (transfer_of v m) (or_else v.input 0) (max 1 (share_for v c m)) kind.First fs
+  pub laid : Laid (transfer_of v m) (unwrap_or v.input 0) (max 1 (share_for v c m)) kind.First fs
   pub carries : Widest c.bytes (transfer_of v m) → Carries c.bytes v.settings.max_frame_size (payload c m) fs
 
 -- what an accepted call puts

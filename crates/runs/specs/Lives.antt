@@ -1,11 +1,9 @@
 -- The life of a delivery, told by the calls of a run: where it stands, under which tag, at which place and with which state,
 -- or how it ended. It names no step of the link.
-use Rattle.std.specs.Prelude.{◌≡◌, ℕ, Bool, true, false, cond, ◌||◌, List, [], ◌∷◌, Option, ◌==◌}
+use Rattle.std.specs.Prelude.{◌≡◌, ℕ, Bool, true, false, cond, ◌||◌, List, [], ◌∷◌, Some, None, Option, ◌==◌}
 use Rattle.amqp.specs.declared.state.DeliveryState.{DeliveryState}
 use Rattle.unsettled.specs.Tables.{same_tag}
 use Rattle.link.specs.declared.delivery.Outcome.{Outcome}
-use Rattle.link.specs.declared.delivery.Progress.{Progress}
-use Rattle.link.specs.declared.delivery.Progress.TheVariants.{Pending, Ended}
 use Rattle.link.specs.declared.delivery.Sendable.{Sendable}
 use Rattle.link.specs.declared.resumption.ResumingDelivery.{ResumingDelivery}
 use Rattle.link.specs.declared.resumption.ResumingDelivery.TheVariants.{Resend, Resume, Abort, RestateOutcome, Settling}
@@ -114,8 +112,8 @@ born unborn = 0
 born (standing w e) = 1
 born (over o) = 1
 
--- what the ticket tells
-abbrev pub progress : Life → Progress
-progress unborn = Pending
-progress (standing w e) = Pending
-progress (over o) = Ended o
+-- what the ticket tells: how the delivery ended, or none yet
+abbrev pub progress : Life → Option Outcome
+progress unborn = None
+progress (standing w e) = None
+progress (over o) = Some o

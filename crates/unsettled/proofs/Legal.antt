@@ -1,25 +1,27 @@
 -- What an illegal tag in a peer's map is, by indices.
-use Rattle.std.proofs.Common.{◌≡◌, ℕ, ◌+◌, ◌<◌, ◌≤◌, Bool, true, false, not, ltb, List, length, get_or, take, Decides, sym, refl, ap, ◌∙◌, ⊎_elim, add-one, arith}
-use Rattle.std.specs.List.{HoldsAt}
+use Rattle.std.proofs.Common.{◌≡◌, ℕ, ◌<◌, ◌≤◌, Bool, true, false, not, ltb, List, length, get_or, take, Decides, sym, refl, ap, ◌∙◌, ⊎_elim, arith}
+use Rattle.std.specs.List.{HoldsAt, range_with_len}
+use Rattle.std.proofs.lemmas.List.Folds.{Any-from_list_any, list_any_at}
+use Rattle.std.proofs.lemmas.List.FromFn.{length-range_with_len, get_or-range_with_len}
 use Rattle.std.specs.Str.{bytes_eq}
 use Rattle.std.proofs.lemmas.Slice.Eq.{bytes_eq-Decides}
 use Rattle.std.proofs.lemmas.List.{length-take-le, get_or-take, get_or_default}
-use Rattle.std.proofs.lemmas.Bool.{both_ways, not-true, not_from_false, cases_Bool, ltb-true, ltb-false, or_cases, or_parts, or_from}
-use Rattle.std.proofs.lemmas.Bool.Decides.{Decides-by_or, Decides-below_or, not_from_Decides}
+use Rattle.std.proofs.lemmas.Bool.{both_ways, not-true, not_from_false, cases_Bool, ltb-true, ltb-false, or_cases, or_parts}
+use Rattle.std.proofs.lemmas.Bool.Decides.{Decides-by_or, not_from_Decides}
 use Rattle.unsettled.specs.declared.peer.PeerDelivery.{PeerDelivery}
-use Rattle.unsettled.specs.Peers.{bytes_of, among, blank, tag_at, illegal_at, illegal_below, illegal_tags, LegalTags}
+use Rattle.unsettled.specs.Peers.{bytes_of, among, blank, tag_at, illegal_at, illegal_tags, LegalTags}
 
--- the loop's step
-pub illegal_more : (ps : List PeerDelivery) (i : ℕ) → illegal_below ps i ≡ false → false ≡ illegal_at ps i → illegal_below ps (i + 1) ≡ false
-illegal_more ps i e h = rw add-one (or_from (illegal_at ps i) (illegal_below ps i) (sym h) e)
-
-below_decides : (ps : List PeerDelivery) (n : ℕ) → Decides (illegal_below ps n) ((k : ℕ) × (k < n) × (illegal_at ps k ≡ true))
-below_decides ps n =
-    Decides-below_or (illegal_at ps) (λ k. illegal_at ps k ≡ true) (illegal_below ps) (λ k. (λ e. e, λ e. e)) refl (λ _. refl) n
-
--- one illegal tag is enough
-pub illegal_here : (ps : List PeerDelivery) (i : ℕ) → i < length ps → true ≡ illegal_at ps i → true ≡ illegal_tags ps
-illegal_here ps i lt h = sym ((below_decides ps (length ps)).1 (i, lt, sym h))
+illegal_decides : (ps : List PeerDelivery) → Decides (illegal_tags ps) ((k : ℕ) × (k < length ps) × (illegal_at ps k ≡ true))
+illegal_decides ps = (
+  λ e.
+      let a = Any-from_list_any (illegal_at ps) (range_with_len 0 (length ps)) e in
+      let l : a.0 < length ps = omega (arith, a.2, length-range_with_len 0 (length ps)) in
+      let k : a.0 ≡ a.1 = omega (arith, get_or-range_with_len 0 (length ps) a.0 a.1 l, a.3) in
+      (a.0, l, ap (illegal_at ps) k ∙ a.4),
+  λ w.
+      let k : get_or (range_with_len 0 (length ps)) w.0 0 ≡ w.0 = omega (arith, get_or-range_with_len 0 (length ps) w.0 0 w.1) in
+      list_any_at (illegal_at ps) (range_with_len 0 (length ps)) w.0 0 (omega (arith, w.1, length-range_with_len 0 (length ps))) (ap (illegal_at ps) k ∙ w.2),
+)
 
 among_decides : (t : List ℕ) (ps : List PeerDelivery) → Decides (among t ps) ((k : ℕ) × (k < length ps) × HoldsAt (λ p. bytes_of p ≡ t) ps k)
 among_decides t ps =
@@ -28,7 +30,7 @@ among_decides t ps =
 -- where no tag is illegal, each is short, and not among those before it
 pub legal_at : (ps : List PeerDelivery) (i : ℕ) → illegal_tags ps ≡ false → i < length ps → (length (tag_at ps i) ≤ 32) × (among (tag_at ps i) (take i ps) ≡ false)
 legal_at ps i e lt =
-    let f : illegal_at ps i ≡ false = ⊎_elim (λ h. absurd (both_ways _ e (sym (illegal_here ps i lt (sym h))))) (λ h. h) (cases_Bool (illegal_at ps i)) in
+    let f : illegal_at ps i ≡ false = ⊎_elim (λ h. absurd (both_ways _ e ((illegal_decides ps).1 (i, lt, h)))) (λ h. h) (cases_Bool (illegal_at ps i)) in
     let p = or_parts (ltb 32 (length (tag_at ps i))) (among (tag_at ps i) (take i ps)) f in
     (ltb-false 32 (length (tag_at ps i)) p.0, p.1)
 
@@ -46,7 +48,7 @@ legal_from ps e =
 
 none_illegal : (ps : List PeerDelivery) → LegalTags ps → illegal_tags ps ≡ true → ⊥
 none_illegal ps h e =
-    let w = (below_decides ps (length ps)).0 e in
+    let w = (illegal_decides ps).0 e in
     let k = w.0 in
     let l = length-take-le k ps (omega (arith, w.1)) in
     ⊎_elim (λ long. let s = h.short k w.1 in let t = ltb-true 32 (length (tag_at ps k)) long in omega arith)

@@ -1,5 +1,4 @@
-pub mod Any
+pub mod Firsts
 pub mod Legal
 pub mod Memory
-pub mod Places
 pub mod Same

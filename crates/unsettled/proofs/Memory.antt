@@ -1,56 +1,65 @@
--- Lists in lent memory: a list is the front of a length, or a part, as far as there is memory.
-use Rattle.std.proofs.Common.{◌≡◌, ℕ, zero, suc, ◌+◌, ◌-◌, ◌<◌, ◌≤◌, min, List, [], ◌∷◌, ◌++◌, length, get_or, take, drop, set, Some, None, sym, ap, ◌∙◌, ⊎_elim, arith}
+-- A table that is the front of `len` slots of the memory `s`, and what becomes of it.
+use Rattle.std.proofs.Common.{◌≡◌, ℕ, zero, suc, ◌+◌, ◌-◌, ◌<◌, ◌≤◌, Bool, true, false, cond, ◌||◌, not, ltb, leb, List, [], ◌∷◌, ◌++◌, length, get_or, take, set, is_some, Some, None, Option, sym, ap, ◌∙◌, arith}
+use Rattle.std.specs.Option.{option_map, unwrap_or}
 use lib.Seq.{take-set-lt}
-use Rattle.std.proofs.lemmas.List.{take_all, take-take, take_more_set, length-take, length-take-le, length-drop, drop_all, get_or-take, get_or_default}
-use Rattle.std.proofs.lemmas.Bool.{cases_lt}
+use Rattle.std.proofs.lemmas.List.{take-take, take_more_set, length-take-le, get_or-take, get_or_default}
+use Rattle.std.proofs.lemmas.Bool.Decides.{nat_tests}
 use Rattle.amqp.specs.declared.tag.DeliveryTag.{DeliveryTag}
 use Rattle.unsettled.specs.declared.slot.Slot.{Slot}
-use Rattle.unsettled.specs.Tables.{place, look, put_in, swap_out, swap_removed}
-use Rattle.unsettled.proofs.Places.{look_some, put_some, put_none, swap_some}
+use Rattle.unsettled.specs.Lists.{replaced}
+use Rattle.unsettled.specs.Tables.{has_tag, place, entry_of, look, can_put, put_in, swap_out, swap_removed}
+use Rattle.unsettled.proofs.Firsts.{first_at, nowhere}
 
--- a length may be brought within the list: the front stays
-pub front_min : {X : Type 0} (xs : List X) (n m : ℕ) → m ≡ min n (length xs) → take m xs ≡ take n xs
-front_min xs n m e =
-    ⊎_elim (λ h. let q : m ≡ n = omega arith in ap (λ k. take k xs) q)
-    (λ h. take_all m xs (omega arith) ∙ sym (take_all n xs h)) (cases_lt n (length xs))
+pub look_some : {M : Type 0} (t : DeliveryTag) (s : List (Slot M)) (len i : ℕ) (d : Slot M) → len ≤ length s → Some i ≡ place t (take len s) → Some (get_or s i d).entry ≡ look t (take len s)
+look_some t s len i d le e =
+    let f = first_at (has_tag t) (take len s) i e in
+    let l = length-take-le len s le in
+    let k = f.below in
+    ap (λ (y : Slot _). Some y.entry) (sym (get_or-take len s i d (omega arith))) ∙ sym (ap entry_of (f.found d))
 
--- the same of a part
-pub part_min : {X : Type 0} (xs : List X) (start len from m : ℕ) → from ≡ min start (length xs) → m ≡ min len (length xs - from) → take m (drop from xs) ≡ take len (drop start xs)
-part_min xs start len from m e f =
-    ⊎_elim
-    (λ h.
-    let q : from ≡ start = omega arith in
-    let g : m ≡ min len (length (drop from xs)) = let l = length-drop from xs in omega arith in
-    front_min (drop from xs) len m g ∙ ap (λ j. take len (drop j xs)) q)
-    (λ h.
-    let a : drop from xs ≡ [] = drop_all from xs (omega arith) in
-    let b : drop start xs ≡ [] = drop_all start xs h in
-    ap (take m) a ∙ take_all m [] (omega arith) ∙ sym (ap (take len) b ∙ take_all len [] (omega arith)))
-    (cases_lt start (length xs))
+pub look_none : {M : Type 0} (t : DeliveryTag) (xs : List (Slot M)) → None ≡ place t xs → None ≡ look t xs
+look_none t xs e = sym (ap entry_of (nowhere (has_tag t) xs e).found)
 
--- a front's own length gives the same front
-front_length : {X : Type 0} (s : List X) (len n : ℕ) → n ≡ length (take len s) → take n s ≡ take len s
-front_length s len n e = let l = length-take len s in front_min s len n (omega arith)
+there_some : {M : Type 0} (t : DeliveryTag) (xs : List (Slot M)) (i : ℕ) → Some i ≡ place t xs → is_some (look t xs) ≡ true
+there_some t [] i e = absurd (cc)
+there_some t (x ∷ xs) i e = ap (λ o. is_some (entry_of o)) ((first_at (has_tag t) (x ∷ xs) i e).found x)
 
--- what follows is about the table that is the front of `len` slots of the memory `s`
+there_none : {M : Type 0} (t : DeliveryTag) (xs : List (Slot M)) → None ≡ place t xs → is_some (look t xs) ≡ false
+there_none t xs e = ap is_some (sym (look_none t xs e))
 
-pub look_front : {M : Type 0} (t : DeliveryTag) (s : List (Slot M)) (len i : ℕ) (x : Slot M) → i < length (take len s) → Some i ≡ place t (take len s) → Some (get_or s i x).entry ≡ look t (take len s)
-look_front t s len i x lt e =
-    let l = length-take len s in
-    ap (λ (y : Slot _). Some y.entry) (sym (get_or-take len s i x (omega arith))) ∙ look_some t (take len s) i x lt e
+-- a tag that is there has a place
+pub there : {M : Type 0} (t : DeliveryTag) (xs : List (Slot M)) (o : Option ℕ) → o ≡ place t xs → is_some o ≡ is_some (look t xs)
+there t xs None e = sym (there_none t xs e)
+there t xs (Some i) e = sym (there_some t xs i e)
+
+-- a present tag can be put
+pub can_put_some : {M : Type 0} (r : ℕ) (t : DeliveryTag) (xs : List (Slot M)) (i : ℕ) → Some i ≡ place t xs → can_put r t xs ≡ true
+can_put_some r t xs i e = ap (λ b. b || ltb (length xs) r) (there_some t xs i e)
+
+not_full : (r n : ℕ) (b : Bool) → b ≡ leb r n → ltb n r ≡ not b
+not_full r n b e = grind (arith, nat_tests)
+
+-- a new tag can be put where the memory is not full
+pub can_put_none : {M : Type 0} (r : ℕ) (t : DeliveryTag) (xs : List (Slot M)) (b : Bool) → None ≡ place t xs → b ≡ leb r (length xs) → can_put r t xs ≡ not b
+can_put_none r t xs b e f = ap (λ c. c || ltb (length xs) r) (there_none t xs e) ∙ not_full r (length xs) b f
 
 -- a present tag's slot is written over
-pub put_over : {M : Type 0} (t : DeliveryTag) (m : M) (s : List (Slot M)) (len i : ℕ) → i < length (take len s) → Some i ≡ place t (take len s) → take len (set s i (record { tag = t; entry = m })) ≡ put_in t m (take len s)
-put_over t m s len i lt e =
-    let l = length-take len s in
-    take-set-lt len s i (record { tag = t; entry = m }) (omega arith) ∙ sym (put_some t m (take len s) i e)
+pub put_over : {M : Type 0} (t : DeliveryTag) (m : M) (s : List (Slot M)) (len i : ℕ) → len ≤ length s → Some i ≡ place t (take len s) → take len (set s i (record { tag = t; entry = m })) ≡ put_in t m (take len s)
+put_over t m s len i le e =
+    let f = first_at (has_tag t) (take len s) i e in
+    let l = length-take-le len s le in
+    let k = f.below in
+    take-set-lt len s i (record { tag = t; entry = m }) (omega arith)
+    ∙ f.written (record { tag = t; entry = m })
+    ∙ sym (ap (λ b. cond b (replaced (has_tag t) (record { tag = t; entry = m }) (take len s)) (take len s ++ record { tag = t; entry = m } ∷ [])) (there_some t (take len s) i e))
 
 -- a new tag's slot is the next
-pub put_next : {M : Type 0} (t : DeliveryTag) (m : M) (s : List (Slot M)) (len n : ℕ) → n ≡ length (take len s) → n < length s → None ≡ place t (take len s) → take (n + 1) (set s n (record { tag = t; entry = m })) ≡ put_in t m (take len s)
-put_next t m s len n l lt e =
-    take_more_set s n (record { tag = t; entry = m }) lt
-    ∙ ap (λ f. f ++ record { tag = t; entry = m } ∷ []) (front_length s len n l)
-    ∙ sym (put_none t m (take len s) e)
+pub put_next : {M : Type 0} (t : DeliveryTag) (m : M) (s : List (Slot M)) (len : ℕ) → len ≤ length s → false ≡ leb (length s) (length (take len s)) → None ≡ place t (take len s) → take (len + 1) (set s len (record { tag = t; entry = m })) ≡ put_in t m (take len s)
+put_next t m s len le f e =
+    let l = length-take-le len s le in
+    let lt : len < length s = grind (arith, nat_tests) in
+    take_more_set s len (record { tag = t; entry = m }) lt
+    ∙ sym (ap (λ b. cond b (replaced (has_tag t) (record { tag = t; entry = m }) (take len s)) (take len s ++ record { tag = t; entry = m } ∷ [])) (there_none t (take len s) e))
 
 swap_front : {X : Type 0} (s : List X) (n i : ℕ) (d : X) → i < n → n ≤ length s → take (n - 1) (set s i (get_or s (n - 1) d)) ≡ swap_out i (take n s)
 swap_front [] n i d lt le = absurd (omega arith)
@@ -66,6 +75,8 @@ swap_front (x ∷ xs) (suc k) i d lt le =
     ∙ ap (λ j. take j (set (x ∷ take k xs) i (get_or (x ∷ take k xs) j x))) (sym l)
 
 -- the last slot is written over a present tag's
-pub swap_last : {M : Type 0} (t : DeliveryTag) (s : List (Slot M)) (len n i : ℕ) (d : Slot M) → n ≡ length (take len s) → i < n → n ≤ length s → Some i ≡ place t (take len s) → take (n - 1) (set s i (get_or s (n - 1) d)) ≡ swap_removed t (take len s)
-swap_last t s len n i d l lt le e =
-    swap_front s n i d lt le ∙ ap (swap_out i) (front_length s len n l) ∙ sym (swap_some t (take len s) i e)
+pub swap_last : {M : Type 0} (t : DeliveryTag) (s : List (Slot M)) (len i : ℕ) (d : Slot M) → len ≤ length s → Some i ≡ place t (take len s) → take (len - 1) (set s i (get_or s (len - 1) d)) ≡ swap_removed t (take len s)
+swap_last t s len i d le e =
+    let l = length-take-le len s le in
+    let k = (first_at (has_tag t) (take len s) i e).below in
+    swap_front s len i d (omega arith) le ∙ ap (λ o. unwrap_or (option_map (λ j. swap_out j (take len s)) o) (take len s)) e

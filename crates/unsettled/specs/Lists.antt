@@ -1,7 +1,7 @@
--- Tests of a list's elements.
-use Rattle.std.specs.Prelude.{Bool, false, ◌||◌, List, [], ◌∷◌}
+-- What becomes of a list where one element passes a test.
+use Rattle.std.specs.Prelude.{Bool, cond, List, [], ◌∷◌}
 
--- some element passes a test
-abbrev pub any : {X : Type 0} → (X → Bool) → List X → Bool
-any p [] = false
-any p (x ∷ xs) = p x || any p xs
+-- the first element that passes is replaced
+abbrev pub replaced : {X : Type 0} → (X → Bool) → X → List X → List X
+replaced p y [] = []
+replaced p y (x ∷ xs) = cond (p x) (y ∷ xs) (x ∷ replaced p y xs)

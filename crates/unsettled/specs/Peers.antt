@@ -1,8 +1,8 @@
 -- The tags that a peer's attach brings.
-use Rattle.std.specs.Prelude.{ℕ, zero, suc, ◌<◌, ◌≤◌, Bool, false, ◌||◌, List, [], length, take, None, ◌≢◌, nat_lt, slice_index_or}
+use Rattle.std.specs.Prelude.{ℕ, ◌<◌, ◌≤◌, Bool, ◌||◌, List, [], length, take, None, ◌≢◌, nat_lt, slice_index_or}
+use Rattle.std.specs.List.{list_any, range_with_len}
 use Rattle.std.specs.Str.{bytes_eq}
 use Rattle.unsettled.specs.declared.peer.PeerDelivery.{PeerDelivery}
-use Rattle.unsettled.specs.Lists.{any}
 
 -- a pair's tag
 abbrev pub bytes_of : PeerDelivery → List ℕ
@@ -10,7 +10,7 @@ bytes_of p = p.tag.now
 
 -- some pair has this tag
 abbrev pub among : List ℕ → List PeerDelivery → Bool
-among t ps = any (λ p. bytes_eq (bytes_of p) t) ps
+among t ps = list_any (λ p. bytes_eq (bytes_of p) t) ps
 
 -- a pair with no bytes, where a list has none
 abbrev pub blank : PeerDelivery
@@ -24,14 +24,9 @@ tag_at ps i = bytes_of (slice_index_or ps i blank)
 abbrev pub illegal_at : List PeerDelivery → ℕ → Bool
 illegal_at ps i = nat_lt 32 (length (tag_at ps i)) || among (tag_at ps i) (take i ps)
 
--- some tag of the first n is illegal
-abbrev pub illegal_below : List PeerDelivery → ℕ → Bool
-illegal_below ps zero = false
-illegal_below ps (suc n) = illegal_at ps n || illegal_below ps n
-
 -- some tag is illegal
 abbrev pub illegal_tags : List PeerDelivery → Bool
-illegal_tags ps = illegal_below ps (length ps)
+illegal_tags ps = list_any (illegal_at ps) (range_with_len 0 (length ps))
 
 -- each tag has at most 32 bytes, and no two are the same
 pub record LegalTags (ps : List PeerDelivery) : Type 0 where

@@ -8,8 +8,8 @@ use amqp::state::DeliveryState;
 // The most bytes that a pool may have.
 const MAX_POOL: usize = 67_108_864;
 
-// Where a message lies in the pool.
-#[derive(Clone, Copy)]
+// Where a message lies in the pool. It is no slice, since each call is lent the pool anew.
+#[derive(Clone, Copy, Default)]
 pub struct Place {
     pub start: usize,
     pub len: usize,
@@ -17,7 +17,7 @@ pub struct Place {
 
 // What is kept of a delivery until it is settled: its message, the state last recorded, and the
 // number of its ticket.
-#[derive(Clone, Copy)]
+#[derive(Clone, Copy, Default)]
 pub struct UnsettledMessage {
     pub place: Place,
     pub state: Option<DeliveryState>,
@@ -39,10 +39,5 @@ impl Place {
 pub fn any_outside(slots: &[Slot<UnsettledMessage>], pool: &[u8]) -> bool
     ensures { result ≡ any_outside slots.now (length pool.now) }
 {
-    for slot in slots {
-        if slot.entry.place.is_outside(pool) {
-            return true;
-        }
-    }
-    false
+    slots.iter().any(|slot| slot.entry.place.is_outside(pool))
 }

@@ -1,6 +1,5 @@
 // The peer's map of unsettled deliveries, as its attach brings it (Part 2, 2.7.3).
 ghost use Rattle.std.specs.Prelude.{◌≡◌, ◌<◌, not, length, Decides};
-ghost use Rattle.std.specs.Str.{bytes_eq};
 ghost use Rattle.unsettled.specs.Peers.{among, illegal_at, illegal_tags, LegalTags};
 
 use amqp::state::DeliveryState;
@@ -14,22 +13,11 @@ pub struct PeerDelivery<'p> {
     pub state: Option<DeliveryState>,
 }
 
-fn same_bytes(a: &[u8], b: &[u8]) -> bool
-    ensures { result ≡ bytes_eq a.now b.now }
-{
-    a == b
-}
-
 // Some pair has this tag.
 fn is_among(tag: &[u8], pairs: &[PeerDelivery<'_>]) -> bool
     ensures { result ≡ among tag.now pairs.now }
 {
-    for pair in pairs {
-        if same_bytes(pair.tag, tag) {
-            return true;
-        }
-    }
-    false
+    pairs.iter().any(|pair| pair.tag == tag)
 }
 
 // The tag at i is too long, or stands before i too.
@@ -46,10 +34,5 @@ pub fn has_illegal_tag(pairs: &[PeerDelivery<'_>]) -> bool
     ensures value { result ≡ illegal_tags pairs.now }
     ensures legal { Decides (not result) (LegalTags pairs.now) }
 {
-    for i in 0..pairs.len() {
-        if is_illegal(pairs, i) {
-            return true;
-        }
-    }
-    false
+    (0..pairs.len()).any(|i| is_illegal(pairs, i))
 }

@@ -1,16 +1,18 @@
 // A list that is worked off from its start, in lent memory.
-ghost use Rattle.std.specs.Prelude.{◌≡◌, ◌≤◌, [], length, ◌==◌};
-ghost use Rattle.unsettled.specs.Worklists.{items, space};
+ghost use Rattle.std.specs.Prelude.{◌≡◌, ◌+◌, ◌≤◌, [], length, ◌==◌};
 
-// It holds `len` places from `start`, as far as there is memory: so any numbers have a meaning.
+// It holds `len` places from `start`, which moves on as the list is worked off; in a table of deliveries nothing does.
 #[derive(Drop)]
 pub struct Worklist<'a, X> {
     slots: &'a mut [X],
     start: usize,
     len: usize,
+    ghost fits: { start + len ≤ length slots.now },
 }
 
 impl<'a, X: Copy> Worklist<'a, X> {
+    ghost use Rattle.unsettled.specs.Worklists.{items, space};
+
     // An empty list in this memory.
     pub fn new(slots: &'a mut [X]) -> Worklist<'a, X>
         ensures holds { items result ≡ [] }
@@ -27,16 +29,14 @@ impl<'a, X: Copy> Worklist<'a, X> {
     pub fn front(&self) -> &[X]
         ensures { result.now ≡ items self.now }
     {
-        let from = self.start.min(self.slots.len());
-        let n = self.len.min(self.slots.len() - from);
-        &self.slots[from..from + n]
+        &self.slots[self.start..self.start + self.len]
     }
 
     pub fn count(&self) -> usize
         ensures value { result ≡ length (items self.now) }
         ensures within { result ≤ space self.now }
     {
-        self.front().len()
+        self.len
     }
 
     pub fn capacity(&self) -> usize
@@ -48,6 +48,6 @@ impl<'a, X: Copy> Worklist<'a, X> {
     pub fn is_empty(&self) -> bool
         ensures { result ≡ (length (items self.now) == 0) }
     {
-        self.front().is_empty()
+        self.len == 0
     }
 }

@@ -21,7 +21,7 @@ impl<'a> SenderLink<'a> {
         let _entry = self.unsettled.swap_remove(tag);
         self.seats.tell(
             entry.ticket,
-            Outcome::from_state(record_state(entry.state, state)),
+            Outcome::from(record_state(entry.state, state)),
         );
     }
 

@@ -1,11 +1,15 @@
-use Rattle.std.proofs.Common.{Some, sym, ap, ◌∙◌}
-use Rattle.link.specs.declared.seat.Seat.TheVariants.{Free}
+use Rattle.std.proofs.Common.{Ok, sym, ap, ◌∙◌}
+use Rattle.std.proofs.lemmas.Result.{err_from_is_err_and}
 use Rattle.link.specs.Seats.{seated}
-use Rattle.link.proofs.Places.{seat_at, seat_none}
+use Rattle.link.proofs.Places.{seat_at, seat_nowhere}
 use Rattle.link.proofs.seat.Seats.look.Goals as goal
 
-pub returns-in-Some : goal.returns-in-Some
-returns-in-Some c = ap Some c.progress.ensures ∙ seat_at c.args.number (seated c.args.self.now) _ Free (sym c.in-Some.ensures.found)
+pub returns-in_err-i : goal.returns-in_err-i
+returns-in_err-i c =
+    let p = err_from_is_err_and c.from_residual.result c.from_residual.ensures.1 in
+    rw (p.1, p.2) (seat_nowhere c.args.number (seated c.args.self.now) c.find.result _ c.find.ensures.found (sym c.ok_or.ensures.value ∙ c.in_err-i.was))
 
-pub returns-in-None : goal.returns-in-None
-returns-in-None c = seat_none c.args.number (seated c.args.self.now) (sym c.in-None.ensures.found)
+pub returns : goal.returns
+returns c =
+    ap Ok c.outcome.ensures
+    ∙ seat_at c.args.number (seated c.args.self.now) c.find.result c.in_ok-i.i _ c.find.ensures.found (sym c.ok_or.ensures.value ∙ c.in_ok-i.was)

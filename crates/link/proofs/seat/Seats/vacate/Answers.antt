@@ -1,18 +1,15 @@
-use Rattle.std.proofs.Common.{Some, sym, ap, ◌∙◌}
-use Rattle.link.specs.declared.seat.Seat.TheVariants.{Free}
-use Rattle.link.specs.Seats.{seated, sits}
-use Rattle.link.proofs.Places.{replaced_at, replaced_none, seat_at, seat_none}
+use Rattle.std.proofs.Common.{Ok, sym, ap, ◌∙◌}
+use Rattle.std.proofs.lemmas.Result.{err_from_is_err_and}
+use Rattle.link.specs.Seats.{seated}
+use Rattle.link.proofs.Places.{seat_at, seat_nowhere}
 use Rattle.link.proofs.seat.Seats.vacate.Goals as goal
 
-pub returns-in-Some : goal.returns-in-Some
-returns-in-Some c =
-    let e = sym c.in-Some.ensures.found in
-    record {
-      answer = ap Some c.progress.ensures ∙ seat_at c.args.number (seated c.args.self.now) _ Free e;
-      after = replaced_at (sits c.args.number) Free (seated c.args.self.now) _ e;
-    }
+pub returns-in_err-i-clause-answer : goal.returns-in_err-i-clause-answer
+returns-in_err-i-clause-answer c =
+    let p = err_from_is_err_and c.from_residual.result c.from_residual.ensures.1 in
+    rw (p.1, p.2) (seat_nowhere c.args.number (seated c.args.self.now) c.find.result _ c.find.ensures.found (sym c.ok_or.ensures.value ∙ c.in_err-i.was))
 
-pub returns-in-None : goal.returns-in-None
-returns-in-None c =
-    let e = sym c.in-None.ensures.found in
-    record { answer = seat_none c.args.number (seated c.args.self.now) e; after = replaced_none (sits c.args.number) Free (seated c.args.self.now) e }
+pub returns-clause-answer : goal.returns-clause-answer
+returns-clause-answer c =
+    ap Ok c.outcome.ensures
+    ∙ seat_at c.args.number (seated c.args.self.now) c.find.result c.in_ok-i.i _ c.find.ensures.found (sym c.ok_or.ensures.value ∙ c.in_ok-i.was)
