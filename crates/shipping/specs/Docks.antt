@@ -1,5 +1,5 @@
 -- A dock: its link and its queue, how a message goes out by them, and what becomes of it.
-use Rattle.std.specs.Prelude.{◌≡◌, ℕ, suc, ◌*◌, min, max, true, false, cond, List, [], length, replicate, Some, None, Ok, Err, Result, ◌==◌, ◌≢◌}
+use Rattle.std.specs.Prelude.{◌≡◌, ℕ, suc, ◌*◌, min, max, true, false, cond, List, [], length, replicate, Some, None, Ok, Err, Option, Result, ◌==◌, ◌≢◌}
 use Rattle.amqp.specs.declared.error.SendError.TheVariants.{SinkFull}
 use Rattle.amqp.specs.declared.error.TicketError.{TicketError}
 use Rattle.amqp.specs.declared.error.TicketError.TheVariants.{NoSeat}
@@ -10,9 +10,8 @@ use Rattle.amqp.specs.declared.state.DeliveryState.TheVariants.{Accepted}
 use Rattle.amqp.specs.declared.tag.DeliveryTag.{DeliveryTag}
 use Rattle.sink.specs.Frames.{Model}
 use Rattle.queue.specs.Queues.{empty}
+use Rattle.link.specs.declared.delivery.Outcome.{Outcome}
 use Rattle.link.specs.declared.delivery.Outcome.TheVariants.{State}
-use Rattle.link.specs.declared.delivery.Progress.{Progress}
-use Rattle.link.specs.declared.delivery.Progress.TheVariants.{Ended}
 use Rattle.link.specs.declared.delivery.Sendable.{Sendable}
 use Rattle.link.specs.declared.seat.Seat.TheVariants.{Free}
 use Rattle.link.specs.Calls.{Disposition, Collect, step}
@@ -89,7 +88,7 @@ pub record Answered (a : Intake) (msg : List ℕ) (v w : View) : Type 0 where
   pub unknown : a.tag ≡ None → w ≡ v
 
 -- the archive has read the queue and answered, and then a ticket was collected
-pub record Settled (v : View) (s : Model) (a : Intake) (msg : List ℕ) (number : ℕ) (told : Result Progress TicketError) (w : View) (t : Model) : Type 0 where
+pub record Settled (v : View) (s : Model) (a : Intake) (msg : List ℕ) (number : ℕ) (told : Result (Option Outcome) TicketError) (w : View) (t : Model) : Type 0 where
   pub between : View
   pub answer : Answered (took_all s.waiting a) msg v between
   pub queue : t ≡ emptied s
@@ -115,7 +114,7 @@ pub record AtRest (v : View) (s : Model) : Type 0 where
 
 -- a message was accepted at the other end, under the next ticket, in as many frames as it needs
 pub record Shipped (v : View) (bytes : Header → List ℕ) (msg : List ℕ) (s : Shipment) : Type 0 where
-  pub accepted : s.progress ≡ Ended (State Accepted)
+  pub accepted : s.progress ≡ Some (State Accepted)
   pub ticket : s.ticket ≡ next_number v
   pub frames : s.frames ≡ frames_for v bytes msg
 

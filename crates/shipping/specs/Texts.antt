@@ -1,21 +1,19 @@
 -- What is printed of outcomes, shipments and totals.
-use Rattle.std.specs.Prelude.{ℕ, ◌+◌, min, Bool, true, false, cond, List, ◌++◌, codes, decimal}
-use Rattle.amqp.specs.declared.state.DeliveryState.{DeliveryState}
+use Rattle.std.specs.Prelude.{ℕ, ◌+◌, min, Bool, true, false, cond, List, ◌++◌, Some, None, codes, decimal, Option}
 use Rattle.amqp.specs.declared.state.DeliveryState.TheVariants.{Received, Accepted, Rejected, Released, Modified}
 use Rattle.amqp.specs.Refusals.{send_number}
 use Rattle.amqp.specs.Texts.{state_text}
+use Rattle.link.specs.declared.delivery.Outcome.{Outcome}
 use Rattle.link.specs.declared.delivery.Outcome.TheVariants.{State, NoState}
-use Rattle.link.specs.declared.delivery.Progress.{Progress}
-use Rattle.link.specs.declared.delivery.Progress.TheVariants.{Pending, Ended}
 use Rattle.shipping.specs.declared.report.ShipError.{ShipError}
 use Rattle.shipping.specs.declared.report.ShipError.TheVariants.{Refused, NoMemory, Link}
 use Rattle.shipping.specs.declared.report.Shipment.{Shipment}
 use Rattle.shipping.specs.declared.report.Totals.{Totals}
 
-abbrev pub told_text : Progress → List ℕ
-told_text Pending = codes "pending"
-told_text (Ended NoState) = codes "none"
-told_text (Ended (State s)) = state_text s
+abbrev pub told_text : Option Outcome → List ℕ
+told_text None = codes "pending"
+told_text (Some NoState) = codes "none"
+told_text (Some (State s)) = state_text s
 
 abbrev pub shipment_text : Shipment → List ℕ
 shipment_text s = decimal s.frames ++ (codes " frames, ticket " ++ (decimal s.ticket ++ (codes ", " ++ told_text s.progress)))
@@ -35,18 +33,18 @@ totals_text t =
 
 -- ---- counting
 
-abbrev pub is_accepted : Progress → Bool
-is_accepted Pending = false
-is_accepted (Ended NoState) = false
-is_accepted (Ended (State (Received p))) = false
-is_accepted (Ended (State Accepted)) = true
-is_accepted (Ended (State (Rejected e))) = false
-is_accepted (Ended (State Released)) = false
-is_accepted (Ended (State (Modified failed undeliverable))) = false
+abbrev pub is_accepted : Option Outcome → Bool
+is_accepted None = false
+is_accepted (Some NoState) = false
+is_accepted (Some (State (Received p))) = false
+is_accepted (Some (State Accepted)) = true
+is_accepted (Some (State (Rejected e))) = false
+is_accepted (Some (State Released)) = false
+is_accepted (Some (State (Modified failed undeliverable))) = false
 
-abbrev pub is_pending : Progress → Bool
-is_pending Pending = true
-is_pending (Ended o) = false
+abbrev pub is_pending : Option Outcome → Bool
+is_pending None = true
+is_pending (Some o) = false
 
 -- a count goes no higher than 64 bits
 abbrev pub raised : ℕ → ℕ → ℕ

@@ -59,7 +59,7 @@ impl Archive {
 
     // A first frame begins anew, a continuation is appended, and a disposition brings no payload.
     pub fn receive(&mut self, frame: Frame<'_>) -> Result<(), AllocError>
-        ensures { OnOk result (self.new ≡ took frame.kind frame.header frame.payload.now self.old) }
+        ensures { OnOk result (self.new ≡ took frame.entry.kind frame.entry.header frame.entry.payload.now self.old) }
     {
         match frame.kind {
             FrameKind::First => {

@@ -3,22 +3,20 @@ ghost use Rattle.std.specs.Prelude.{◌≡◌, Some};
 ghost use Rattle.shipping.specs.Texts.{told_text, is_accepted, is_pending};
 
 use amqp::state::DeliveryState;
-use link::delivery::{Outcome, Progress};
+use link::delivery::Outcome;
 use std::fmt;
 
 #[derive(Clone, Copy)]
-pub struct Told(pub Progress);
+pub struct Told(pub Option<Outcome>);
 
 impl fmt::Display for Told {
     ghost output = { λ s. Some (told_text s.0) };
 
     fn fmt<W: fmt::Write>(&self, f: &mut fmt::Formatter<W>) -> fmt::Result {
         match self.0 {
-            Progress::Pending => f.write_str("pending"),
-            Progress::Ended(outcome) => match outcome {
-                Outcome::NoState => f.write_str("none"),
-                Outcome::State(state) => write!(f, "{state}"),
-            },
+            None => f.write_str("pending"),
+            Some(Outcome::NoState) => f.write_str("none"),
+            Some(Outcome::State(state)) => write!(f, "{state}"),
         }
     }
 }
@@ -27,15 +25,12 @@ impl Told {
     pub fn is_accepted(&self) -> bool
         ensures { result ≡ is_accepted self.now.0 }
     {
-        matches!(
-            self.0,
-            Progress::Ended(Outcome::State(DeliveryState::Accepted))
-        )
+        self.0 == Some(Outcome::State(DeliveryState::Accepted))
     }
 
     pub fn is_pending(&self) -> bool
         ensures { result ≡ is_pending self.now.0 }
     {
-        matches!(self.0, Progress::Pending)
+        self.0.is_none()
     }
 }

@@ -7,19 +7,19 @@ ghost use Rattle.shipping.specs.Texts.{shipment_text, error_text, totals_text, t
 use crate::message::MessageError;
 use crate::outcome::Told;
 use amqp::error::{MemoryError, SendError, TicketError};
-use link::delivery::Progress;
+use link::delivery::Outcome;
 use std::alloc::AllocError;
 use std::fmt;
 
-#[derive(Clone, Copy)]
+#[derive(Clone, Copy, PartialEq, Eq)]
 pub struct Shipment {
     pub frames: usize,
     // The number of the delivery's ticket.
     pub ticket: u32,
-    pub progress: Progress,
+    pub progress: Option<Outcome>,
 }
 
-#[derive(Clone, Copy)]
+#[derive(Clone, Copy, PartialEq, Eq)]
 pub enum ShipError {
     // The link refused to send the message.
     Refused(SendError),
@@ -29,7 +29,7 @@ pub enum ShipError {
 }
 
 // There is too little memory for the frames or the message.
-#[derive(Clone, Copy)]
+#[derive(Clone, Copy, PartialEq, Eq)]
 pub struct OutOfMemory;
 
 impl From<AllocError> for OutOfMemory {
@@ -107,7 +107,7 @@ impl fmt::Display for ShipError {
 }
 
 // What all shipments came to.
-#[derive(Clone, Copy, Default)]
+#[derive(Clone, Copy, PartialEq, Eq, Default)]
 pub struct Totals {
     pub files: u64,
     pub frames: u64,

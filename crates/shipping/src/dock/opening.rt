@@ -10,7 +10,6 @@ use crate::archive::Archive;
 use crate::report::{OutOfMemory, ShipError};
 use amqp::error::MakeError;
 use amqp::mode::{ReceiverSettleMode, SenderSettleMode};
-use amqp::tag::DeliveryTag;
 use link::attach::Attach;
 use link::resumption::ResumingDelivery;
 use link::seat::Seat;
@@ -19,7 +18,7 @@ use queue::place::Place as QueuePlace;
 use queue::queue::Queue;
 use sender::sender_link::SenderLink;
 use std::alloc::{AllocError, Global};
-use unsettled::message::{Place, UnsettledMessage};
+use unsettled::message::UnsettledMessage;
 use unsettled::peer::PeerDelivery;
 use unsettled::slot::Slot;
 
@@ -52,15 +51,7 @@ impl LinkMemory {
     pub fn with_entries(heap: Global, entries: usize) -> Result<LinkMemory, AllocError>
         ensures { IfOk result (λ m. (rooms_in m ≡ rooms_of entries entries entries) × (seats_in m ≡ entries)) }
     {
-        let blank = Slot {
-            tag: DeliveryTag::from_count(0),
-            entry: UnsettledMessage {
-                place: Place { start: 0, len: 0 },
-                state: None,
-                message_format: 0,
-                ticket: 0,
-            },
-        };
+        let blank = Slot::<UnsettledMessage>::default();
         Ok(LinkMemory {
             table: vec![in heap; blank; entries]?,
             resume: vec![in heap; ResumingDelivery::Resend(blank); entries]?,
