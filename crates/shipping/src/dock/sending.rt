@@ -75,10 +75,9 @@ impl<'a> Dock<'a> {
         loop {
             match self.try_send(encoder, message) {
                 Ok(settlement) => return Ok(settlement),
-                Err(e) => match e {
-                    SendError::SinkFull => self.make_room()?,
-                    _ => return Err(e.into()),
-                },
+                // A guard and no pattern: after a pattern the proof would not know that the last arm's error is another.
+                Err(e) if e == SendError::SinkFull => self.make_room()?,
+                Err(e) => return Err(e.into()),
             }
         }
     }

@@ -1,4 +1,6 @@
-use Rattle.std.proofs.Common.{ap, ◌∙◌}
+use Rattle.std.proofs.Common.{◌≡◌, Bool, true, false, ap, ◌∙◌, rules, tests}
+use Rattle.std.proofs.lemmas.Bool.{false≢true}
+use Rattle.amqp.specs.declared.error.SendError.TheVariants.{SinkFull}
 use Rattle.sink.specs.Frames.{Model}
 use Rattle.shipping.proofs.Room.{fed, roomier_none}
 use Rattle.shipping.proofs.Sends.{gone_later, stayed}
@@ -6,11 +8,13 @@ use Rattle.shipping.proofs.dock.Dock.send_in_room.Goals as goal
 
 pub loop-settlement-smaller : goal.loop-settlement-smaller
 loop-settlement-smaller g c =
-    fed _ _ _ _ _ _ _ _ c.in-SinkFull.is c.in-Err.ensures c.in_ok-make_room-in-SinkFull.ensures.queue
+    let t = c.if-eq.ensures in
+    let full : c.in-Err.e ≡ SinkFull = search (rules, tests) in
+    fed _ _ _ _ _ _ _ _ full c.in-Err.ensures c.in_ok-make_room-in-Err.ensures.queue
 
 pub loop-settlement-preserved : goal.loop-settlement-preserved
 loop-settlement-preserved g c =
-    let after = c.in_ok-make_room-in-SinkFull.ensures in
+    let after = c.in_ok-make_room-in-Err.ensures in
     let kept = stayed _ _ _ _ _ _ c.in-Err.ensures in
     (after.link ∙ kept.0 ∙ c.loop-settlement.invariant.0, λ e. ap (λ (m : Model). m.waiting) after.queue ∙ roomier_none c.try_send.new.self.queue)
 
@@ -18,7 +22,8 @@ pub returns-in-Ok : goal.returns-in-Ok
 returns-in-Ok g c =
     gone_later _ c.loop-settlement.self.link _ _ _ c.loop-settlement.self.queue _ _ _ c.loop-settlement.invariant.0 c.loop-settlement.invariant.1 c.in-Ok.ensures
 
-pub returns-in_default : goal.returns-in_default
-returns-in_default g c =
+pub returns-in-Err-2 : goal.returns-in-Err-2
+returns-in-Err-2 g c =
     let kept = stayed _ _ _ _ _ _ c.in-Err.ensures in
-    rw c.into.ensures (kept.0 ∙ c.loop-settlement.invariant.0, c.in_default.not-SinkFull, λ e. ap (λ (m : Model). m.waiting) kept.1 ∙ c.loop-settlement.invariant.1 e)
+    let other : c.in-Err.e ≡ SinkFull → ⊥ = λ e. (let t : ◌≡◌ {A = Bool} false true = rw e at c.if-eq.ensures in false≢true t) in
+    rw c.into.ensures (kept.0 ∙ c.loop-settlement.invariant.0, other, λ e. ap (λ (m : Model). m.waiting) kept.1 ∙ c.loop-settlement.invariant.1 e)
