@@ -30,56 +30,43 @@ fn fail(rt: &HostRuntime, what: impl fmt::Display + Drop) -> Failed {
     Failed
 }
 
-// Ships one file after the other, until one cannot be read. Whether all were sent.
+// Ships one file after the other, until one cannot be read. It fails too where one was refused.
 fn ship_all(
     rt: &HostRuntime,
     options: &Options<'_>,
     dock: &mut Dock<'_>,
     totals: &mut Totals,
-) -> Result<bool, Failed> {
-    let mut all = true;
+) -> Result<(), Failed> {
+    let mut shipped = Ok(());
     for parcel in &options.parcels {
         let shelf = parcel.shelf;
         let path = parcel.path;
-        let file = match fs::read(rt, path) {
-            Ok(file) => file,
-            Err(e) => {
-                let _ = eprintln!(rt; "ship: {path}: {e}");
-                let _ = eprintln!(rt; "{USAGE}");
-                return Err(Failed);
-            }
-        };
+        let file = fs::read(rt, path).map_err(|e| fail(rt, format_args!("{path}: {e}")))?;
         let len = file.len();
         match dock.ship(&Compact, file.as_slice()) {
             Ok(shipment) => {
                 println!(rt; "{shelf} {path}: {len} bytes, {shipment}")?;
                 totals.add(len, &shipment);
             }
-            Err(ShipError::Refused(e)) => {
-                let refused = ShipError::Refused(e);
+            Err(refused @ ShipError::Refused(_)) => {
                 println!(rt; "{shelf} {path}: {len} bytes, {refused}")?;
-                all = false;
+                shipped = Err(Failed);
             }
             Err(e) => return Err(fail(rt, e)),
         }
     }
-    Ok(all)
+    shipped
 }
 
 fn run(rt: &HostRuntime, options: &Options<'_>) -> Result<(), Failed> {
     let heap = rt.alloc();
-    let mut memory = match LinkMemory::new(heap) {
-        Ok(memory) => memory,
-        Err(_) => return Err(fail(rt, ShipError::NoMemory)),
-    };
-    let mut dock = match Dock::open(heap, &mut memory, options.frame, options.credit) {
-        Ok(dock) => dock,
-        Err(e) => return Err(fail(rt, e)),
-    };
-    let mut totals = Totals::new();
-    let outcome = ship_all(rt, options, &mut dock, &mut totals);
+    let mut memory = LinkMemory::new(heap).map_err(|_| fail(rt, ShipError::NoMemory))?;
+    let mut dock = Dock::open(heap, &mut memory, options.frame, options.credit)
+        .map_err(|e| fail(rt, e))?;
+    let mut totals = Totals::default();
+    let shipped = ship_all(rt, options, &mut dock, &mut totals);
     println!(rt; "{totals}")?;
-    if outcome? { Ok(()) } else { Err(Failed) }
+    shipped
 }
 
 // The words after the program's name.
@@ -88,14 +75,9 @@ fn words(rt: &HostRuntime) -> io::Result<Vec<String>> {
 }
 
 fn start(rt: &HostRuntime) -> Result<(), Failed> {
-    let words = match words(rt) {
-        Ok(words) => words,
-        Err(e) => return Err(fail(rt, e)),
-    };
-    match parse(rt.alloc(), words.as_slice()) {
-        Ok(options) => run(rt, &options),
-        Err(e) => Err(fail(rt, e)),
-    }
+    let words = words(rt).map_err(|e| fail(rt, e))?;
+    let options = parse(rt.alloc(), words.as_slice()).map_err(|e| fail(rt, e))?;
+    run(rt, &options)
 }
 
 fn main(rt: HostRuntime) -> ExitCode {

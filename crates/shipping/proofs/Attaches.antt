@@ -1,5 +1,5 @@
 -- A link that is made of memory whose sizes fit, and a dock that is opened with it.
-use Rattle.std.proofs.Common.{◌≡◌, ℕ, suc, ◌+◌, ◌-◌, ◌^◌, ◌<◌, min, Bool, true, false, cond, replicate, Ok, Err, Result, sym, refl, ap, ◌∙◌, arith}
+use Rattle.std.proofs.Common.{◌≡◌, ℕ, suc, ◌+◌, ◌-◌, ◌^◌, ◌<◌, min, Bool, true, false, cond, replicate, Ok, Err, Result, sym, refl, ap, ◌∙◌, arith, is_ok, MatchResult}
 use Rattle.std.proofs.lemmas.Bool.Decides.{nat_tests}
 use Rattle.amqp.specs.declared.error.MakeError.{MakeError}
 use Rattle.amqp.specs.declared.error.MakeError.TheVariants.{Sizes}
@@ -9,7 +9,7 @@ use Rattle.link.specs.declared.seat.Seat.TheVariants.{Free}
 use Rattle.link.specs.declared.settings.Settings.{Settings}
 use Rattle.link.specs.Calls.{Flow, step}
 use Rattle.link.specs.Views.{View, Rooms, fresh, bad_sizes, made}
-use Rattle.sender.specs.Views.{rooms_of}
+use Rattle.shipping.specs.declared.report.ShipError.{ShipError}
 use Rattle.shipping.specs.Archives.{Intake, untouched, granting}
 use Rattle.shipping.specs.Docks.{AtRest}
 use Rattle.shipping.specs.Openings.{opened}
@@ -18,10 +18,11 @@ fits : (bad : Bool) (v w : View) → ◌≡◌ {A = Result View MakeError} (Ok v
 fits true v w h = let z : ◌≡◌ {A = ℕ} 0 1 = cc in absurd (omega arith)
 fits false v w h = (refl, cc)
 
--- a link that was made is new, over as much memory as the vectors hold
-pub new_link : (s : Settings) (t r d n t' r' d' n' : ℕ) (v : View) → t ≡ t' → r ≡ r' → d ≡ d' → n ≡ n' → Ok v ≡ made s 0 (rooms_of t r d) n → (bad_sizes (rooms_of t' r' d') n' ≡ false) × (v ≡ fresh s 0 (rooms_of t' r' d') n')
-new_link s t r d n t' r' d' n' v et er ed en h =
-    rw (sym et, sym er, sym ed, sym en) (fits (bad_sizes (rooms_of t r d) n) v (fresh s 0 (rooms_of t r d) n) h)
+-- a link that was made is new, and its memory's sizes fit
+pub new_link : (s : Settings) (rooms : Rooms) (seats : ℕ) (r : Result View MakeError) (m : Result View ShipError) (P : MakeError → Type 0) (l : View) → r ≡ made s 0 rooms seats → MatchResult r (λ x. m ≡ Ok x) P → is_ok m ≡ is_ok r → m ≡ Ok l → (bad_sizes rooms seats ≡ false) × (l ≡ fresh s 0 rooms seats)
+new_link s rooms seats (Ok x) m P l h same ok e =
+    let is : x ≡ l = cc in fits (bad_sizes rooms seats) l (fresh s 0 rooms seats) (ap (λ (y : View). Ok y) (sym is) ∙ h)
+new_link s rooms seats (Err x) m P l h same ok e = let z : ◌≡◌ {A = ℕ} 0 1 = cc in absurd (omega arith)
 
 -- the first credit
 pub credited : (frame credit seats : ℕ) (rooms : Rooms) (v w : View) (a : Intake) → v ≡ opened frame 0 rooms seats → a ≡ untouched → credit < 2 ^ 32 → w ≡ step v (Flow (granting credit a)) → w ≡ opened frame credit rooms seats

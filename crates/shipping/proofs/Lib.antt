@@ -1,6 +1,3 @@
-pub mod Plains
-pub mod Taking
-pub mod Heads
 pub mod Room
 pub mod Frames
 pub mod Sends

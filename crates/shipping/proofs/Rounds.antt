@@ -7,7 +7,6 @@ use Rattle.amqp.specs.declared.tag.DeliveryTag.{DeliveryTag}
 use Rattle.unsettled.specs.Tables.{same_tag}
 use Rattle.unsettled.proofs.Same.{same_tag_decides}
 use Rattle.link.specs.declared.delivery.Outcome.TheVariants.{State}
-use Rattle.link.specs.declared.delivery.Progress.TheVariants as progress
 use Rattle.link.specs.declared.seat.Seat.TheVariants.{Free}
 use Rattle.link.specs.Calls.{Disposition, Collect, step}
 use Rattle.link.specs.Disposing.{looked}
@@ -32,11 +31,11 @@ ended u len = step (underway u len) (Disposition (next_tag u) true (Some Accepte
 abbrev pub round : View → (len : ℕ) → View
 round u len = step (ended u len) (Collect (next_number u))
 
-pub tells_accepted : (u : View) (len k : ℕ) → u.settings.snd_settle_mode ≡ Unsettled → u.held.table ≡ [] → u.seats ≡ replicate (suc k) Free → looked (ended u len) (next_number u) ≡ Ok (progress.Ended (State Accepted))
+pub tells_accepted : (u : View) (len k : ℕ) → u.settings.snd_settle_mode ≡ Unsettled → u.held.table ≡ [] → u.seats ≡ replicate (suc k) Free → looked (ended u len) (next_number u) ≡ Ok (Some (State Accepted))
 tells_accepted u len k mode table seats = simp (mode, table, seats, same, self)
 
 pub table_empty : (u : View) (len k : ℕ) → u.settings.snd_settle_mode ≡ Unsettled → u.held.table ≡ [] → u.seats ≡ replicate (suc k) Free → (round u len).held.table ≡ []
-table_empty u len k mode table seats = simp (mode, table, seats, same, self)
+table_empty u len k mode table seats = simp (mode, table, seats, same)
 
 pub seats_free : (u : View) (len k : ℕ) → u.settings.snd_settle_mode ≡ Unsettled → u.held.table ≡ [] → u.seats ≡ replicate (suc k) Free → (round u len).seats ≡ replicate (suc k) Free
 seats_free u len k mode table seats = simp (mode, table, seats, same, self)

@@ -1,5 +1,6 @@
 -- What a send of the link means to the dock.
 use Rattle.std.proofs.Common.{◌≡◌, ℕ, max, List, [], ◌++◌, length, take, drop, Some, None, Ok, Err, Option, Result, refl, ap, ◌∙◌, subst, arith}
+use Rattle.std.specs.Option.{unwrap_or}
 use Rattle.std.proofs.lemmas.List.FromFn.{length-map-range_with_len}
 use Rattle.std.proofs.lemmas.List.{take_all}
 use Rattle.amqp.specs.declared.error.SendError.{SendError}
@@ -8,7 +9,6 @@ use Rattle.sink.specs.Cuts.{frame_at}
 use Rattle.sink.specs.Frames.{Frame, Model, Grown, After}
 use Rattle.link.specs.declared.delivery.Sendable.{Sendable}
 use Rattle.link.specs.Calls.{Flow, step}
-use Rattle.link.specs.Credit.{or_else}
 use Rattle.link.specs.Rows.{gated, unless, Accepted}
 use Rattle.link.specs.Sending.{Carrier, carrier, Sent, payload, next_number, transfer_of, share_for, frames_needed, send_refusal, sent_answer, sent, sent_frames}
 use Rattle.link.specs.Turns.{landed, stay}
@@ -53,13 +53,13 @@ gone v bytes msg s r w t h =
     let put = (grown (send_refusal v c m) s t (sent_frames v c m) (frames_needed (share_for v c m) (payload c m)) none h.sink).waiting in
     let whole = (carries (send_refusal v c m) _ none h.carries).whole in
     let read : (a : Intake) → took_all t.waiting a ≡ took_all (sent_frames v c m) (took_all s.waiting a) = λ a. ap (λ fs. took_all fs a) put ∙ took_append s.waiting (sent_frames v c m) a in
-    let made : (a : Intake) → took_all (sent_frames v c m) (took_all s.waiting a) ≡ _ = λ a. read_whole (transfer_of v m) (or_else v.input 0) (max 1 (share_for v c m)) (payload c m) (took_all s.waiting a) in
+    let made : (a : Intake) → took_all (sent_frames v c m) (took_all s.waiting a) ≡ _ = λ a. read_whole (transfer_of v m) (unwrap_or v.input 0) (max 1 (share_for v c m)) (payload c m) (took_all s.waiting a) in
     record {
       answer = h.answer ∙ ap (λ (o : Option SendError). gated o (sent_answer v m)) none;
       link = h.link ∙ ap (λ (o : Option SendError). landed v (unless o (stay v) (sent v m))) none;
       tag = λ a. ap (λ (x : Intake). x.tag) (read a ∙ made a);
       whole = λ a. ap (λ (x : Intake). x.joined) (read a ∙ made a) ∙ whole ∙ all_of msg;
-      frames = λ e. ap length (put ∙ ap (λ (fs : List Frame). fs ++ sent_frames v c m) e) ∙ length-map-range_with_len (frame_at (transfer_of v m) (or_else v.input 0) (max 1 (share_for v c m)) (frames_needed (share_for v c m) (payload c m)) (payload c m)) 0 (frames_needed (share_for v c m) (payload c m)) ∙ ap (λ (xs : List ℕ). frames_needed (share_for v c m) xs) (all_of msg);
+      frames = λ e. ap length (put ∙ ap (λ (fs : List Frame). fs ++ sent_frames v c m) e) ∙ length-map-range_with_len (frame_at (transfer_of v m) (unwrap_or v.input 0) (max 1 (share_for v c m)) (frames_needed (share_for v c m) (payload c m)) (payload c m)) 0 (frames_needed (share_for v c m) (payload c m)) ∙ ap (λ (xs : List ℕ). frames_needed (share_for v c m) xs) (all_of msg);
     }
 
 -- the same, where the link waited for room

@@ -1,14 +1,13 @@
 -- What a message that was sent from rest comes to.
-use Rattle.std.proofs.Common.{◌≡◌, ℕ, true, List, [], length, Some, Ok, Err, Result, ap, ◌∙◌, arith}
+use Rattle.std.proofs.Common.{◌≡◌, ℕ, true, List, [], length, Some, Ok, Err, Option, Result, ap, ◌∙◌, arith}
 use Rattle.amqp.specs.declared.error.TicketError.{TicketError}
 use Rattle.amqp.specs.declared.header.Header.{Header}
 use Rattle.amqp.specs.declared.mode.SenderSettleMode.TheVariants.{Unsettled as never}
 use Rattle.amqp.specs.declared.state.DeliveryState.{DeliveryState}
 use Rattle.amqp.specs.declared.state.DeliveryState.TheVariants.{Accepted}
 use Rattle.sink.specs.Frames.{Model}
+use Rattle.link.specs.declared.delivery.Outcome.{Outcome}
 use Rattle.link.specs.declared.delivery.Outcome.TheVariants.{State}
-use Rattle.link.specs.declared.delivery.Progress.{Progress}
-use Rattle.link.specs.declared.delivery.Progress.TheVariants.{Ended}
 use Rattle.link.specs.Calls.{Disposition, Collect, step}
 use Rattle.link.specs.Disposing.{looked}
 use Rattle.link.specs.Sending.{next_number, next_tag, sent_answer}
@@ -42,7 +41,7 @@ numbered : (u : View) (len : ℕ) (t : Ticket) → u.settings.snd_settle_mode �
 numbered u len t mode h = let k = simp mode at h in cc
 
 -- the archive has all of the message, so it accepts
-between_is : (u : View) (bytes : Header → List ℕ) (msg : List ℕ) (s t t' : Model) (x : Ticket) (a : Intake) (told : Result Progress TicketError) (w w' : View) → Gone u bytes msg s (Unsettled x) w t → (h : Settled w t a msg x.number told w' t') → h.between ≡ ended u (length msg)
+between_is : (u : View) (bytes : Header → List ℕ) (msg : List ℕ) (s t t' : Model) (x : Ticket) (a : Intake) (told : Result (Option Outcome) TicketError) (w w' : View) → Gone u bytes msg s (Unsettled x) w t → (h : Settled w t a msg x.number told w' t') → h.between ≡ ended u (length msg)
 between_is u bytes msg s t t' x a told w w' gone h =
     let known = h.answer.known (next_tag u) (gone.tag a) in
     let good = known.1.same (gone.whole a) in
@@ -50,14 +49,14 @@ between_is u bytes msg s t t' x a told w w' gone h =
     ∙ ap (λ (y : DeliveryState). step w (Disposition (next_tag u) true (Some y))) good
     ∙ ap (λ (y : View). step y (Disposition (next_tag u) true (Some Accepted))) gone.link
 
-told_is : (u : View) (bytes : Header → List ℕ) (msg : List ℕ) (s t t' : Model) (x : Ticket) (a : Intake) (told : Result Progress TicketError) (w w' : View) → AtRest u s → Gone u bytes msg s (Unsettled x) w t → Settled w t a msg x.number told w' t' → told ≡ Ok (Ended (State Accepted))
+told_is : (u : View) (bytes : Header → List ℕ) (msg : List ℕ) (s t t' : Model) (x : Ticket) (a : Intake) (told : Result (Option Outcome) TicketError) (w w' : View) → AtRest u s → Gone u bytes msg s (Unsettled x) w t → Settled w t a msg x.number told w' t' → told ≡ Ok (Some (State Accepted))
 told_is u bytes msg s t t' x a told w w' rest gone h =
     h.ticket
     ∙ ap (λ (y : View). looked y x.number) (between_is u bytes msg s t t' x a told w w' gone h)
     ∙ ap (looked (ended u (length msg))) (numbered u (length msg) x rest.mode gone.answer)
     ∙ tells_accepted u (length msg) rest.spare rest.mode rest.table rest.seats
 
-link_is : (u : View) (bytes : Header → List ℕ) (msg : List ℕ) (s t t' : Model) (x : Ticket) (a : Intake) (told : Result Progress TicketError) (w w' : View) → AtRest u s → Gone u bytes msg s (Unsettled x) w t → Settled w t a msg x.number told w' t' → w' ≡ round u (length msg)
+link_is : (u : View) (bytes : Header → List ℕ) (msg : List ℕ) (s t t' : Model) (x : Ticket) (a : Intake) (told : Result (Option Outcome) TicketError) (w w' : View) → AtRest u s → Gone u bytes msg s (Unsettled x) w t → Settled w t a msg x.number told w' t' → w' ≡ round u (length msg)
 link_is u bytes msg s t t' x a told w w' rest gone h =
     h.link
     ∙ ap (λ (y : View). step y (Collect x.number)) (between_is u bytes msg s t t' x a told w w' gone h)

@@ -1,30 +1,11 @@
 -- What a word is read as, and words one after the other.
-use Rattle.std.proofs.Common.{◌≡◌, ℕ, zero, suc, ◌+◌, ◌<◌, ◌≤◌, Bool, true, false, cond, eqb, ◌⊎◌, List, [], ◌∷◌, ◌++◌, map, length, get_or, take, drop, Some, None, Ok, Err, Option, Result, sym, refl, ap, ◌∙◌, subst, inl, inr, ⊎_elim, arith, drop-cons, rules, MatchResult}
+use Rattle.std.proofs.Common.{◌≡◌, ℕ, ◌+◌, ◌<◌, ◌≤◌, ◌⊎◌, List, [], ◌∷◌, ◌++◌, map, length, get_or, take, drop, Some, None, Ok, Err, Option, Result, sym, refl, ap, ◌∙◌, subst, inl, inr, ⊎_elim, arith, drop-cons, MatchResult}
 use Rattle.std.proofs.lemmas.List.{length-map, get_or-map, take_more, take_all, take-append-drop}
 use Rattle.shipping.specs.declared.options.Key.{Key}
 use Rattle.shipping.specs.declared.options.Options.{Options}
-use Rattle.shipping.specs.declared.options.Parcel.{Parcel}
 use Rattle.shipping.specs.declared.options.UsageError.{UsageError}
 use Rattle.shipping.specs.declared.options.UsageError.TheVariants.{NoMemory}
-use Rattle.shipping.specs.declared.shelf.Shelf.{Shelf}
-use Rattle.shipping.specs.declared.shelf.Shelf.TheVariants.{Response, Mesh, RayLog}
-use Rattle.shipping.specs.Shelves.{name_of}
-use Rattle.shipping.specs.Words.{wanted, key_text, SoFar, Begins, NamesFile, Takes, TakesAll, Stops, Meant}
-
-abbrev has : ℕ → List ℕ → Bool
-has c [] = false
-has c (x ∷ xs) = cond (eqb x c) true (has c xs)
-
-has_not : (c : ℕ) (bs : List ℕ) (i : ℕ) → has c bs ≡ false → i < length bs → get_or bs i 0 ≡ c → ⊥
-has_not c [] i h lt e = omega arith
-has_not c (x ∷ xs) zero h lt e = search rules
-has_not c (x ∷ xs) (suc i) h lt e = let ih = has_not c xs i in search rules
-
--- no shelf's name has the sign
-pub sign_after : (s : Shelf) (i : ℕ) → i < length (name_of s) → get_or (name_of s) i 0 ≡ 61 → ⊥
-sign_after Response i = has_not 61 (name_of Response) i refl
-sign_after Mesh i = has_not 61 (name_of Mesh) i refl
-sign_after RayLog i = has_not 61 (name_of RayLog) i refl
+use Rattle.shipping.specs.Words.{key_text, SoFar, Begins, NamesFile, Takes, TakesAll, Stops, Meant}
 
 -- ---- one word
 
@@ -32,10 +13,11 @@ pub at_number : (a : Option Key) (k : Key) (word : List ℕ) (s t : SoFar) (r : 
 at_number a k word s t (Ok x) e h = rw e h
 at_number a k word s t (Err x) e h = inr (λ u g. h u (rw e at g))
 
-pub at_file : (a : Option Key) (word : List ℕ) (s t : SoFar) (r : Result (Unit {0}) UsageError) → a ≡ None → ((k : Key) → word ≡ key_text k → ⊥) → MatchResult r (λ _. NamesFile word s t) (λ e. (e ≡ NoMemory) ⊎ ((u : SoFar) → NamesFile word s u → ⊥)) → MatchResult r (λ _. Takes a word s t) (λ e. (e ≡ NoMemory) ⊎ ((u : SoFar) → Takes a word s u → ⊥))
-at_file a word s t (Ok x) e n h = rw e (inr h)
-at_file a word s t (Err x) e n (inl m) = inl m
-at_file a word s t (Err x) e n (inr h) = inr (λ u g. ⊎_elim (λ (b : Begins word s u). n b.0 b.1) (λ (f : NamesFile word s u). h u f) (rw e at g))
+pub at_file : (a : Option Key) (word : List ℕ) (s t : SoFar) (r : Result (Unit {0}) UsageError) → ((k : Key) → a ≡ Some k → ⊥) → ((k : Key) → word ≡ key_text k → ⊥) → MatchResult r (λ _. NamesFile word s t) (λ e. (e ≡ NoMemory) ⊎ ((u : SoFar) → NamesFile word s u → ⊥)) → MatchResult r (λ _. Takes a word s t) (λ e. (e ≡ NoMemory) ⊎ ((u : SoFar) → Takes a word s u → ⊥))
+at_file (Some k) word s t r a n h = absurd (a k refl)
+at_file None word s t (Ok x) a n h = inr h
+at_file None word s t (Err x) a n (inl m) = inl m
+at_file None word s t (Err x) a n (inr h) = inr (λ u g. ⊎_elim (λ (b : Begins word s u). n b.0 b.1) (λ (f : NamesFile word s u). h u f) g)
 
 -- ---- all words
 
@@ -80,11 +62,3 @@ end_of (w ∷ ws) s t h g = inr (h.0, h.1, end_of ws h.0 t h.2 g)
 pub finished : (ws : List (List ℕ)) (s t : SoFar) (r : Result Options UsageError) → TakesAll ws s t → MatchResult r (λ o. Meant t o) (λ _. t.awaits ≡ None → t.parcels ≡ []) → MatchResult r (λ o. (u : SoFar) × TakesAll ws s u × Meant u o) (λ e. (e ≡ NoMemory) ⊎ Stops ws s)
 finished ws s t (Ok o) h m = (t, h, m)
 finished ws s t (Err e) h m = inr (end_of ws s t h m)
-
-pub none_wanted : (xs : List Parcel) → length xs ≡ 0 → map wanted xs ≡ []
-none_wanted [] h = refl
-none_wanted (x ∷ xs) h = absurd (omega arith)
-
-pub some_wanted : (xs : List Parcel) → map wanted xs ≡ [] → length xs ≡ 0
-some_wanted [] h = refl
-some_wanted (x ∷ xs) h = let z : ◌≡◌ {A = ℕ} 0 1 = cc in absurd (omega arith)

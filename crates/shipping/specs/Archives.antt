@@ -1,5 +1,5 @@
 -- What the archive keeps of the frames that come, and how it judges them.
-use Rattle.std.specs.Prelude.{◌≡◌, ℕ, ◌+◌, ◌%◌, ◌^◌, false, List, [], ◌∷◌, ◌++◌, Some, None, vec_items, Option, ◌≢◌}
+use Rattle.std.specs.Prelude.{◌≡◌, ℕ, ◌+◌, ◌%◌, ◌^◌, false, List, [], ◌∷◌, ◌++◌, Some, None, Option, ◌≢◌}
 use Rattle.amqp.specs.declared.condition.AmqpError.TheVariants.{DecodeError}
 use Rattle.amqp.specs.declared.header.FrameKind.{FrameKind}
 use Rattle.amqp.specs.declared.header.FrameKind.TheVariants as kind
@@ -10,16 +10,12 @@ use Rattle.amqp.specs.declared.state.DeliveryState.TheVariants.{Accepted, Reject
 use Rattle.amqp.specs.declared.tag.DeliveryTag.{DeliveryTag}
 use Rattle.link.specs.declared.flow.LinkFlow.{LinkFlow}
 use Rattle.sink.specs.Frames.{Frame}
-use Rattle.shipping.specs.declared.archive.Archive.{Archive}
 
 -- how many deliveries have begun, the tag of the last, and what has come of it
 pub record Intake : Type 0 where
   pub deliveries : ℕ
   pub tag : Option DeliveryTag
   pub joined : List ℕ
-
-abbrev pub intake_of : Archive → Intake
-intake_of a = record { deliveries = a.deliveries; tag = a.tag; joined = vec_items a.joined }
 
 -- nothing has come
 abbrev pub untouched : Intake

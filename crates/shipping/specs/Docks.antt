@@ -1,5 +1,5 @@
 -- A dock: its link and its queue, how a message goes out by them, and what becomes of it.
-use Rattle.std.specs.Prelude.{◌≡◌, ℕ, suc, ◌*◌, min, max, true, false, cond, List, [], length, replicate, Some, None, Ok, Err, Result, ◌==◌, ◌≢◌}
+use Rattle.std.specs.Prelude.{◌≡◌, ℕ, suc, ◌*◌, min, max, true, false, cond, List, [], length, replicate, Some, None, Ok, Err, Option, Result, ◌==◌, ◌≢◌}
 use Rattle.amqp.specs.declared.error.SendError.TheVariants.{SinkFull}
 use Rattle.amqp.specs.declared.error.TicketError.{TicketError}
 use Rattle.amqp.specs.declared.error.TicketError.TheVariants.{NoSeat}
@@ -9,10 +9,9 @@ use Rattle.amqp.specs.declared.state.DeliveryState.{DeliveryState}
 use Rattle.amqp.specs.declared.state.DeliveryState.TheVariants.{Accepted}
 use Rattle.amqp.specs.declared.tag.DeliveryTag.{DeliveryTag}
 use Rattle.sink.specs.Frames.{Model}
-use Rattle.queue.specs.Queues.{model_of, empty}
+use Rattle.queue.specs.Queues.{empty}
+use Rattle.link.specs.declared.delivery.Outcome.{Outcome}
 use Rattle.link.specs.declared.delivery.Outcome.TheVariants.{State}
-use Rattle.link.specs.declared.delivery.Progress.{Progress}
-use Rattle.link.specs.declared.delivery.Progress.TheVariants.{Ended}
 use Rattle.link.specs.declared.delivery.Sendable.{Sendable}
 use Rattle.link.specs.declared.seat.Seat.TheVariants.{Free}
 use Rattle.link.specs.Calls.{Disposition, Collect, step}
@@ -22,20 +21,18 @@ use Rattle.link.specs.Turns.{landed}
 use Rattle.link.specs.Views.{View}
 use Rattle.sender.specs.declared.ticket.Settlement.{Settlement}
 use Rattle.sender.specs.Sends.{answered}
-use Rattle.sender.specs.Views.{view}
-use Rattle.shipping.specs.declared.dock.Dock.{Dock}
-use Rattle.shipping.specs.declared.report.OutOfMemory.{OutOfMemory}
 use Rattle.shipping.specs.declared.report.ShipError.{ShipError}
 use Rattle.shipping.specs.declared.report.ShipError.TheVariants.{Refused, NoMemory, Link}
 use Rattle.shipping.specs.declared.report.Shipment.{Shipment}
 use Rattle.shipping.specs.Archives.{Intake, took_all, Judged}
 use Rattle.shipping.specs.Unloading.{emptied}
 
-abbrev pub link_of : Dock → View
-link_of d = view d.link
-
-abbrev pub queue_of : Dock → Model
-queue_of d = model_of d.queue
+-- what is known of a dock: its link, the frames that wait, what its archive has taken in, and the credit granted at a time
+pub record Docked : Type 0 where
+  pub link : View
+  pub queue : Model
+  pub archive : Intake
+  pub credit : ℕ
 
 -- ---- room in the queue
 
@@ -90,14 +87,8 @@ pub record Answered (a : Intake) (msg : List ℕ) (v w : View) : Type 0 where
   pub known : (t : DeliveryTag) → a.tag ≡ Some t → (s : DeliveryState) × Judged a.joined msg s × (w ≡ step v (Disposition t true (Some s)))
   pub unknown : a.tag ≡ None → w ≡ v
 
--- the frames that were read, and what the ticket told
-abbrev pub shipment_of : (ticket : ℕ) → Result ℕ OutOfMemory → Result Progress TicketError → Result Shipment ShipError
-shipment_of ticket (Ok frames) (Ok progress) = Ok (record { frames = frames; ticket = ticket; progress = progress })
-shipment_of ticket (Ok frames) (Err e) = Err Link
-shipment_of ticket (Err e) told = Err NoMemory
-
 -- the archive has read the queue and answered, and then a ticket was collected
-pub record Settled (v : View) (s : Model) (a : Intake) (msg : List ℕ) (number : ℕ) (told : Result Progress TicketError) (w : View) (t : Model) : Type 0 where
+pub record Settled (v : View) (s : Model) (a : Intake) (msg : List ℕ) (number : ℕ) (told : Result (Option Outcome) TicketError) (w : View) (t : Model) : Type 0 where
   pub between : View
   pub answer : Answered (took_all s.waiting a) msg v between
   pub queue : t ≡ emptied s
@@ -123,7 +114,7 @@ pub record AtRest (v : View) (s : Model) : Type 0 where
 
 -- a message was accepted at the other end, under the next ticket, in as many frames as it needs
 pub record Shipped (v : View) (bytes : Header → List ℕ) (msg : List ℕ) (s : Shipment) : Type 0 where
-  pub accepted : s.progress ≡ Ended (State Accepted)
+  pub accepted : s.progress ≡ Some (State Accepted)
   pub ticket : s.ticket ≡ next_number v
   pub frames : s.frames ≡ frames_for v bytes msg
 

@@ -9,13 +9,11 @@ use Rattle.link.specs.declared.seat.Seat.TheVariants.{Free}
 use Rattle.link.specs.declared.settings.Settings.{Settings}
 use Rattle.link.specs.declared.state.LinkState.TheVariants.{Attached}
 use Rattle.link.specs.Views.{View, Rooms, empty, bad_sizes}
-use Rattle.sender.specs.declared.sender_link.SenderLink.{SenderLink}
-use Rattle.sender.specs.Views.{rooms_of, view}
-use Rattle.shipping.specs.declared.dock.Dock.{Dock}
+use Rattle.sender.specs.Views.{rooms_of}
 use Rattle.shipping.specs.declared.dock.opening.LinkMemory.{LinkMemory}
 use Rattle.shipping.specs.declared.report.ShipError.{ShipError}
 use Rattle.shipping.specs.declared.report.ShipError.TheVariants.{Refused, NoMemory, Link}
-use Rattle.shipping.specs.Docks.{link_of, queue_of, AtRest}
+use Rattle.shipping.specs.Docks.{Docked, AtRest}
 
 abbrev pub rooms_in : LinkMemory → Rooms
 rooms_in m = rooms_of (vec_len m.table) (vec_len m.resume) (vec_len m.resend)
@@ -52,8 +50,8 @@ opened frame credit rooms seats =
     }
 
 -- the link, or an error where the memory's sizes do not fit
-abbrev pub AttachedIn : LinkMemory → (frame : ℕ) → Result SenderLink ShipError → Type 0
-AttachedIn m frame (Ok l) = (bad_sizes (rooms_in m) (seats_in m) ≡ false) × (view l ≡ opened frame 0 (rooms_in m) (seats_in m))
+abbrev pub AttachedIn : LinkMemory → (frame : ℕ) → Result View ShipError → Type 0
+AttachedIn m frame (Ok l) = (bad_sizes (rooms_in m) (seats_in m) ≡ false) × (l ≡ opened frame 0 (rooms_in m) (seats_in m))
 AttachedIn m frame (Err e) = (bad_sizes (rooms_in m) (seats_in m) ≡ true) × (e ≡ Link)
 
 -- the longest frame that is asked for
@@ -61,13 +59,13 @@ abbrev pub frame_cap : ℕ → ℕ
 frame_cap frame = min frame 65535
 
 -- a dock at rest, with this frame size and credit
-pub record Open (m : LinkMemory) (frame credit : ℕ) (d : Dock) : Type 0 where
-  pub link : link_of d ≡ opened (frame_cap frame) credit (rooms_in m) (seats_in m)
-  pub queue : queue_of d ≡ queues.empty 16 (max (frame_cap frame) 1)
-  pub rest : AtRest (link_of d) (queue_of d)
+pub record Open (m : LinkMemory) (frame credit : ℕ) (d : Docked) : Type 0 where
+  pub link : d.link ≡ opened (frame_cap frame) credit (rooms_in m) (seats_in m)
+  pub queue : d.queue ≡ queues.empty 16 (max (frame_cap frame) 1)
+  pub rest : AtRest d.link d.queue
 
 -- the dock, or an error for want of memory, or where the sizes of what the link is lent do not fit
-abbrev pub Opening : LinkMemory → (frame credit : ℕ) → Result Dock ShipError → Type 0
+abbrev pub Opening : LinkMemory → (frame credit : ℕ) → Result Docked ShipError → Type 0
 Opening m frame credit (Ok d) = Open m frame credit d
 Opening m frame credit (Err (Refused e)) = ⊥
 Opening m frame credit (Err NoMemory) = Unit {0}

@@ -1,8 +1,11 @@
 -- A message of one data section (Part 3, 3.2.6).
 use Rattle.std.specs.Prelude.{ℕ, ◌^◌, ◌≤◌, cond, List, [], ◌∷◌, ◌++◌, length, nat_lt}
 use Rattle.amqp.specs.Tags.{be4}
+use Rattle.amqp.specs.declared.error.SendError.TheVariants.{OutsidePool}
 use Rattle.shipping.specs.declared.message.MessageError.{MessageError}
 use Rattle.shipping.specs.declared.message.MessageError.TheVariants.{NoMemory, TooLong}
+use Rattle.shipping.specs.declared.report.ShipError.{ShipError}
+use Rattle.shipping.specs.declared.report.ShipError.TheVariants as ship
 
 -- a data section is described by 0x75, a small ulong (Part 1, 1.2)
 abbrev pub descriptor : List ℕ
@@ -23,3 +26,8 @@ data_section bytes = section_head (length bytes) ++ bytes
 abbrev pub Unwritten : List ℕ → MessageError → Type 0
 Unwritten bytes NoMemory = Unit {0}
 Unwritten bytes TooLong = 2 ^ 32 ≤ length bytes
+
+-- what that is where a file is shipped: no pool is so long either
+abbrev pub unshipped : MessageError → ShipError
+unshipped NoMemory = ship.NoMemory
+unshipped TooLong = ship.Refused OutsidePool

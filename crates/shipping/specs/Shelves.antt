@@ -1,7 +1,9 @@
 -- Shelves and their names.
-use Rattle.std.specs.Prelude.{◌≡◌, ℕ, List, Some, None, codes, Option, ◌≢◌}
+use Rattle.std.specs.Prelude.{◌≡◌, ℕ, List, Some, None, Ok, codes, Option, Result, ◌≢◌}
+use Rattle.std.specs.Result.{result_ok}
 use Rattle.shipping.specs.declared.shelf.Shelf.{Shelf}
 use Rattle.shipping.specs.declared.shelf.Shelf.TheVariants.{Response, Mesh, RayLog}
+use Rattle.shipping.specs.declared.shelf.UnknownShelf.{UnknownShelf}
 
 -- what is printed of a shelf
 abbrev pub name_of : Shelf → List ℕ
@@ -13,3 +15,8 @@ name_of RayLog = codes "raylog"
 abbrev pub Named : List ℕ → Option Shelf → Type 0
 Named text None = (s : Shelf) → text ≢ name_of s
 Named text (Some s) = text ≡ name_of s
+
+-- each shelf's name reads as it, and no other text reads as a shelf
+pub record Reads (text : List ℕ) (r : Result Shelf UnknownShelf) : Type 0 where
+  pub back : (s : Shelf) → text ≡ name_of s → r ≡ Ok s
+  pub only : Named text (result_ok r)

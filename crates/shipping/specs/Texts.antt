@@ -1,39 +1,19 @@
 -- What is printed of outcomes, shipments and totals.
 use Rattle.std.specs.Prelude.{ℕ, ◌+◌, min, Bool, true, false, cond, List, ◌++◌, Some, None, codes, decimal, Option}
-use Rattle.amqp.specs.declared.condition.AmqpError.{AmqpError}
-use Rattle.amqp.specs.declared.state.DeliveryState.{DeliveryState}
 use Rattle.amqp.specs.declared.state.DeliveryState.TheVariants.{Received, Accepted, Rejected, Released, Modified}
 use Rattle.amqp.specs.Refusals.{send_number}
-use Rattle.amqp.specs.States.{condition_number}
+use Rattle.amqp.specs.Texts.{state_text}
+use Rattle.link.specs.declared.delivery.Outcome.{Outcome}
 use Rattle.link.specs.declared.delivery.Outcome.TheVariants.{State, NoState}
-use Rattle.link.specs.declared.delivery.Progress.{Progress}
-use Rattle.link.specs.declared.delivery.Progress.TheVariants.{Pending, Ended}
 use Rattle.shipping.specs.declared.report.ShipError.{ShipError}
 use Rattle.shipping.specs.declared.report.ShipError.TheVariants.{Refused, NoMemory, Link}
 use Rattle.shipping.specs.declared.report.Shipment.{Shipment}
 use Rattle.shipping.specs.declared.report.Totals.{Totals}
 
-abbrev pub flag_text : Option Bool → List ℕ
-flag_text None = codes "absent"
-flag_text (Some false) = codes "no"
-flag_text (Some true) = codes "yes"
-
--- a condition's number, and 0 for none
-abbrev pub condition_in : Option AmqpError → ℕ
-condition_in None = 0
-condition_in (Some e) = condition_number e
-
-abbrev pub state_text : DeliveryState → List ℕ
-state_text (Received p) = codes "received(" ++ (decimal p.section_number ++ (codes "," ++ (decimal p.section_offset ++ codes ")")))
-state_text Accepted = codes "accepted"
-state_text (Rejected e) = codes "rejected(" ++ (decimal (condition_in e) ++ codes ")")
-state_text Released = codes "released"
-state_text (Modified failed undeliverable) = codes "modified(" ++ (flag_text failed ++ (codes "," ++ (flag_text undeliverable ++ codes ")")))
-
-abbrev pub told_text : Progress → List ℕ
-told_text Pending = codes "pending"
-told_text (Ended NoState) = codes "none"
-told_text (Ended (State s)) = state_text s
+abbrev pub told_text : Option Outcome → List ℕ
+told_text None = codes "pending"
+told_text (Some NoState) = codes "none"
+told_text (Some (State s)) = state_text s
 
 abbrev pub shipment_text : Shipment → List ℕ
 shipment_text s = decimal s.frames ++ (codes " frames, ticket " ++ (decimal s.ticket ++ (codes ", " ++ told_text s.progress)))
@@ -53,18 +33,18 @@ totals_text t =
 
 -- ---- counting
 
-abbrev pub is_accepted : Progress → Bool
-is_accepted Pending = false
-is_accepted (Ended NoState) = false
-is_accepted (Ended (State (Received p))) = false
-is_accepted (Ended (State Accepted)) = true
-is_accepted (Ended (State (Rejected e))) = false
-is_accepted (Ended (State Released)) = false
-is_accepted (Ended (State (Modified failed undeliverable))) = false
+abbrev pub is_accepted : Option Outcome → Bool
+is_accepted None = false
+is_accepted (Some NoState) = false
+is_accepted (Some (State (Received p))) = false
+is_accepted (Some (State Accepted)) = true
+is_accepted (Some (State (Rejected e))) = false
+is_accepted (Some (State Released)) = false
+is_accepted (Some (State (Modified failed undeliverable))) = false
 
-abbrev pub is_pending : Progress → Bool
-is_pending Pending = true
-is_pending (Ended o) = false
+abbrev pub is_pending : Option Outcome → Bool
+is_pending None = true
+is_pending (Some o) = false
 
 -- a count goes no higher than 64 bits
 abbrev pub raised : ℕ → ℕ → ℕ

@@ -1,11 +1,13 @@
 -- The words of the command line, and what they are read as.
-use Rattle.std.specs.Prelude.{◌≡◌, ℕ, ◌⊎◌, List, [], ◌∷◌, ◌++◌, map, Some, None, vec_items, codes, Option}
+use Rattle.std.specs.Prelude.{◌≡◌, ℕ, ◌⊎◌, List, [], ◌∷◌, ◌++◌, map, Some, None, vec_items, codes, Option, Result, ◌≢◌, MatchResult}
 use Rattle.std.specs.Option.{unwrap_or}
 use Rattle.shipping.specs.declared.options.Key.{Key}
 use Rattle.shipping.specs.declared.options.Key.TheVariants.{Frame, Credit}
 use Rattle.shipping.specs.declared.options.Options.{Options}
 use Rattle.shipping.specs.declared.options.Parcel.{Parcel}
-use Rattle.shipping.specs.declared.options.Reading.{Reading}
+use Rattle.shipping.specs.declared.options.UnknownKey.{UnknownKey}
+use Rattle.shipping.specs.declared.options.UsageError.{UsageError}
+use Rattle.shipping.specs.declared.options.UsageError.TheVariants.{NoFiles, UnknownOption, Twice, NoNumber, BadNumber, NoShelf, UnknownShelf, NoMemory}
 use Rattle.shipping.specs.declared.shelf.Shelf.{Shelf}
 use Rattle.shipping.specs.Numbers.{Reads}
 use Rattle.shipping.specs.Shelves.{name_of}
@@ -26,15 +28,27 @@ abbrev pub key_text : Key → List ℕ
 key_text Frame = codes "--frame"
 key_text Credit = codes "--credit"
 
+-- a word that reads as a key is what is printed of it, and any other is no key's
+abbrev pub ReadsKey : List ℕ → Result Key UnknownKey → Type 0
+ReadsKey word r = MatchResult r (λ k. word ≡ key_text k) (λ _. (k : Key) → word ≢ key_text k)
+
+-- what is printed where the words cannot be read
+abbrev pub usage_text : UsageError → List ℕ
+usage_text NoFiles = codes "no files are named"
+usage_text (UnknownOption word) = word.now ++ codes " is no option"
+usage_text (Twice k) = key_text k ++ codes " is given twice"
+usage_text (NoNumber k) = key_text k ++ codes " has no number after it"
+usage_text (BadNumber k word) = key_text k ++ (codes " " ++ (word.now ++ codes ": no decimal number up to 4294967295"))
+usage_text (NoShelf word) = word.now ++ codes " is not SHELF=FILE"
+usage_text (UnknownShelf name) = name.now ++ codes " is no shelf"
+usage_text NoMemory = codes "not enough memory"
+
 -- what has been read: the numbers of the options, the option whose number comes next, and the files
 pub record SoFar : Type 0 where
   pub frame : Option ℕ
   pub credit : Option ℕ
   pub awaits : Option Key
   pub parcels : List Wanted
-
-abbrev pub so_far : Reading → SoFar
-so_far r = record { frame = r.frame; credit = r.credit; awaits = r.awaits; parcels = map wanted (vec_items r.parcels) }
 
 abbrev pub unread : SoFar
 unread = record { frame = None; credit = None; awaits = None; parcels = [] }

@@ -5,7 +5,7 @@ ghost use Rattle.shipping.specs.Sections.{section_head, data_section, Unwritten}
 
 use std::alloc::{AllocError, Global};
 
-#[derive(Clone, Copy)]
+#[derive(Clone, Copy, Debug, PartialEq, Eq)]
 pub enum MessageError {
     NoMemory,
     // No binary has so many bytes: its length is written in four.
@@ -37,12 +37,8 @@ fn head(heap: Global, len: u32) -> Result<Vec<u8>, AllocError>
 pub fn data_section(heap: Global, bytes: &[u8]) -> Result<Vec<u8>, MessageError>
     ensures { MatchResult result (λ v. v.items ≡ data_section bytes.now) (λ e. Unwritten bytes.now e) }
 {
-    match u32::try_from(bytes.len()) {
-        Ok(len) => {
-            let mut section = head(heap, len)?;
-            section.extend_from_slice(bytes)?;
-            Ok(section)
-        }
-        Err(_) => Err(MessageError::TooLong),
-    }
+    let len = u32::try_from(bytes.len()).map_err(|_| MessageError::TooLong)?;
+    let mut section = head(heap, len)?;
+    section.extend_from_slice(bytes)?;
+    Ok(section)
 }

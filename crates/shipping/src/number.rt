@@ -8,8 +8,5 @@ pub fn read_u32(text: &str) -> Option<u32>
     if text.starts_with('+') {
         return None;
     }
-    match text.parse::<u32>() {
-        Ok(n) => Some(n),
-        Err(_) => None,
-    }
+    text.parse().ok()
 }

@@ -1,24 +1,29 @@
 // The words of the command line.
-ghost use Rattle.std.specs.Prelude.{◌≡◌, ◌⊎◌, [], map, is_some, Some, None, string_bytes, MatchOption, MatchResult, ◌≢◌};
-ghost use Rattle.shipping.specs.declared.options.Key.{Key as KeyModel};
+ghost use Rattle.std.specs.Prelude.{◌≡◌, ◌⊎◌, [], map, is_some, Some, None, string_bytes, MatchResult, ◌≢◌};
 ghost use Rattle.shipping.specs.declared.options.UsageError.TheVariants.{NoMemory};
-ghost use Rattle.shipping.specs.Words.{Wanted, wanted, parcel_text, key_text, SoFar, so_far, unread, number_of, numbered, awaiting, NamesFile, Takes, TakesAll, Stops, Meant};
+ghost use Rattle.shipping.specs.Words.{Wanted, wanted, parcel_text, key_text, ReadsKey, usage_text, SoFar, unread, number_of, numbered, awaiting, NamesFile, Takes, TakesAll, Stops, Meant};
 
 use crate::number::read_u32;
 use crate::shelf::Shelf;
 use std::alloc::{AllocError, AllocFailed, Global};
 use std::fmt;
+use std::marker::Model;
+use std::str::FromStr;
 
 // What a frame and the credit are where nothing is said.
 const FRAME: u32 = 512;
 
 const CREDIT: u32 = 100;
 
-#[derive(Clone, Copy)]
+#[derive(Clone, Copy, Debug, PartialEq, Eq)]
 pub enum Key {
     Frame,
     Credit,
 }
+
+// The word is no key.
+#[derive(Clone, Copy, Debug, PartialEq, Eq)]
+pub struct UnknownKey;
 
 // A file, and the shelf that it is for.
 #[derive(Clone, Copy)]
@@ -34,7 +39,7 @@ pub struct Options<'a> {
     pub parcels: Vec<Parcel<'a>>,
 }
 
-#[derive(Clone, Copy)]
+#[derive(Clone, Copy, Debug, PartialEq, Eq)]
 pub enum UsageError<'a> {
     NoFiles,
     UnknownOption(&'a str),
@@ -65,7 +70,24 @@ impl fmt::Display for Key {
     }
 }
 
+// The key that is printed so. No other word is a key.
+impl FromStr for Key {
+    type Err = UnknownKey;
+
+    ghost from_str_gives = { ReadsKey };
+
+    fn from_str(word: &str) -> Result<Key, UnknownKey> {
+        match word {
+            "--frame" => Ok(Key::Frame),
+            "--credit" => Ok(Key::Credit),
+            _ => Err(UnknownKey),
+        }
+    }
+}
+
 impl fmt::Display for UsageError<'_> {
+    ghost output = { λ e. Some (usage_text e) };
+
     fn fmt<W: fmt::Write>(&self, f: &mut fmt::Formatter<W>) -> fmt::Result {
         match *self {
             UsageError::NoFiles => f.write_str("no files are named"),
@@ -92,31 +114,23 @@ struct Reading<'a> {
     parcels: Vec<Parcel<'a>>,
 }
 
+impl<'a> Model for Reading<'a> {
+    ghost Value = { SoFar };
+
+    ghost view = { λ r. record { frame = r.frame; credit = r.credit; awaits = r.awaits; parcels = map wanted r.parcels.items } };
+}
+
 fn read_parcel(word: &str) -> Result<Parcel<'_>, UsageError<'_>>
     ensures { MatchResult result (λ p. word.now ≡ parcel_text (wanted p)) (λ e. ((p : Wanted) → word.now ≢ parcel_text p)) }
 {
-    match word.split_once('=') {
-        Some((name, path)) => match Shelf::from_name(name) {
-            Some(shelf) => Ok(Parcel { shelf, path }),
-            None => Err(UsageError::UnknownShelf(name)),
-        },
-        None => Err(UsageError::NoShelf(word)),
-    }
-}
-
-fn key_of(word: &str) -> Option<Key>
-    ensures { MatchOption result ((k : KeyModel) → word.now ≢ key_text k) (λ k. word.now ≡ key_text k) }
-{
-    match word {
-        "--frame" => Some(Key::Frame),
-        "--credit" => Some(Key::Credit),
-        _ => None,
-    }
+    let (name, path) = word.split_once('=').ok_or(UsageError::NoShelf(word))?;
+    let shelf = name.parse().map_err(|_| UsageError::UnknownShelf(name))?;
+    Ok(Parcel { shelf, path })
 }
 
 impl<'a> Reading<'a> {
     fn is_given(&self, key: Key) -> bool
-        ensures { result ≡ is_some (number_of key (so_far self.now)) }
+        ensures { result ≡ is_some (number_of key self.now) }
     {
         match key {
             Key::Frame => self.frame.is_some(),
@@ -125,7 +139,7 @@ impl<'a> Reading<'a> {
     }
 
     fn set(&mut self, key: Key, n: u32)
-        ensures { so_far self.new ≡ numbered key n (so_far self.old) }
+        ensures { self.new ≡ numbered key n self.old }
     {
         match key {
             Key::Frame => self.frame = Some(n),
@@ -135,19 +149,15 @@ impl<'a> Reading<'a> {
     }
 
     fn read_number(&mut self, key: Key, word: &'a str) -> Result<(), UsageError<'a>>
-        ensures { MatchResult result (λ _. Takes (Some key) word.now (so_far self.old) (so_far self.new)) (λ e. ((t : SoFar) → Takes (Some key) word.now (so_far self.old) t → ⊥)) }
+        ensures { MatchResult result (λ _. Takes (Some key) word.now self.old self.new) (λ e. ((t : SoFar) → Takes (Some key) word.now self.old t → ⊥)) }
     {
-        match read_u32(word) {
-            Some(n) => {
-                self.set(key, n);
-                Ok(())
-            }
-            None => Err(UsageError::BadNumber(key, word)),
-        }
+        let n = read_u32(word).ok_or(UsageError::BadNumber(key, word))?;
+        self.set(key, n);
+        Ok(())
     }
 
     fn read_option(&mut self, key: Key) -> Result<(), UsageError<'a>>
-        ensures { MatchResult result (λ _. (number_of key (so_far self.old) ≡ None) × (so_far self.new ≡ awaiting key (so_far self.old))) (λ _. (number_of key (so_far self.old) ≢ None)) }
+        ensures { MatchResult result (λ _. (number_of key self.old ≡ None) × (self.new ≡ awaiting key self.old)) (λ _. (number_of key self.old ≢ None)) }
     {
         if self.is_given(key) {
             return Err(UsageError::Twice(key));
@@ -157,7 +167,7 @@ impl<'a> Reading<'a> {
     }
 
     fn read_file(&mut self, word: &'a str) -> Result<(), UsageError<'a>>
-        ensures { MatchResult result (λ _. NamesFile word.now (so_far self.old) (so_far self.new)) (λ e. (e ≡ NoMemory) ⊎ ((t : SoFar) → NamesFile word.now (so_far self.old) t → ⊥)) }
+        ensures { MatchResult result (λ _. NamesFile word.now self.old self.new) (λ e. (e ≡ NoMemory) ⊎ ((t : SoFar) → NamesFile word.now self.old t → ⊥)) }
     {
         if word.starts_with('-') {
             return Err(UsageError::UnknownOption(word));
@@ -167,19 +177,19 @@ impl<'a> Reading<'a> {
     }
 
     fn read(&mut self, word: &'a str) -> Result<(), UsageError<'a>>
-        ensures { MatchResult result (λ _. Takes self.old.awaits word.now (so_far self.old) (so_far self.new)) (λ e. (e ≡ NoMemory) ⊎ ((t : SoFar) → Takes self.old.awaits word.now (so_far self.old) t → ⊥)) }
+        ensures { MatchResult result (λ _. Takes self.old.awaits word.now self.old self.new) (λ e. (e ≡ NoMemory) ⊎ ((t : SoFar) → Takes self.old.awaits word.now self.old t → ⊥)) }
     {
-        match self.awaits {
-            Some(key) => self.read_number(key, word),
-            None => match key_of(word) {
-                Some(key) => self.read_option(key),
-                None => self.read_file(word),
-            },
+        if let Some(key) = self.awaits {
+            return self.read_number(key, word);
+        }
+        match word.parse() {
+            Ok(key) => self.read_option(key),
+            Err(UnknownKey) => self.read_file(word),
         }
     }
 
     fn finish(self) -> Result<Options<'a>, UsageError<'a>>
-        ensures { MatchResult result (λ o. Meant (so_far self.entry) o) (λ _. ((so_far self.entry).awaits ≡ None → (so_far self.entry).parcels ≡ [])) }
+        ensures { MatchResult result (λ o. Meant self.entry o) (λ _. (self.entry.awaits ≡ None → self.entry.parcels ≡ [])) }
     {
         if let Some(key) = self.awaits {
             return Err(UsageError::NoNumber(key));

@@ -1,23 +1,25 @@
 // What became of a file.
 ghost use Rattle.std.specs.Prelude.{◌≡◌, Some};
-ghost use Rattle.shipping.specs.declared.report.ShipError.TheVariants.{NoMemory};
+ghost use Rattle.shipping.specs.declared.report.ShipError.TheVariants.{Refused, NoMemory, Link};
+ghost use Rattle.shipping.specs.Sections.{unshipped};
 ghost use Rattle.shipping.specs.Texts.{shipment_text, error_text, totals_text, tallied};
 
+use crate::message::MessageError;
 use crate::outcome::Told;
-use amqp::error::{MemoryError, SendError};
-use link::delivery::Progress;
+use amqp::error::{MemoryError, SendError, TicketError};
+use link::delivery::Outcome;
 use std::alloc::AllocError;
 use std::fmt;
 
-#[derive(Clone, Copy)]
+#[derive(Clone, Copy, PartialEq, Eq)]
 pub struct Shipment {
     pub frames: usize,
     // The number of the delivery's ticket.
     pub ticket: u32,
-    pub progress: Progress,
+    pub progress: Option<Outcome>,
 }
 
-#[derive(Clone, Copy)]
+#[derive(Clone, Copy, PartialEq, Eq)]
 pub enum ShipError {
     // The link refused to send the message.
     Refused(SendError),
@@ -27,7 +29,7 @@ pub enum ShipError {
 }
 
 // There is too little memory for the frames or the message.
-#[derive(Clone, Copy)]
+#[derive(Clone, Copy, PartialEq, Eq)]
 pub struct OutOfMemory;
 
 impl From<AllocError> for OutOfMemory {
@@ -47,6 +49,34 @@ impl From<OutOfMemory> for ShipError {
 
     fn from(_e: OutOfMemory) -> ShipError {
         ShipError::NoMemory
+    }
+}
+
+impl From<MessageError> for ShipError {
+    ghost from_gives = { λ e r. r ≡ unshipped e };
+
+    fn from(e: MessageError) -> ShipError {
+        match e {
+            MessageError::NoMemory => ShipError::NoMemory,
+            // No pool is so long either.
+            MessageError::TooLong => ShipError::Refused(SendError::OutsidePool),
+        }
+    }
+}
+
+impl From<SendError> for ShipError {
+    ghost from_gives = { λ e r. r ≡ Refused e };
+
+    fn from(e: SendError) -> ShipError {
+        ShipError::Refused(e)
+    }
+}
+
+impl From<TicketError> for ShipError {
+    ghost from_gives = { λ _ r. r ≡ Link };
+
+    fn from(_e: TicketError) -> ShipError {
+        ShipError::Link
     }
 }
 
@@ -77,7 +107,7 @@ impl fmt::Display for ShipError {
 }
 
 // What all shipments came to.
-#[derive(Clone, Copy)]
+#[derive(Clone, Copy, PartialEq, Eq, Default)]
 pub struct Totals {
     pub files: u64,
     pub frames: u64,
@@ -87,18 +117,6 @@ pub struct Totals {
 }
 
 impl Totals {
-    pub fn new() -> Totals
-        ensures { result ≡ record { files = 0; frames = 0; bytes = 0; accepted = 0; pending = 0 } }
-    {
-        Totals {
-            files: 0,
-            frames: 0,
-            bytes: 0,
-            accepted: 0,
-            pending: 0,
-        }
-    }
-
     // One more file, of so many bytes.
     pub fn add(&mut self, bytes: usize, shipment: &Shipment)
         ensures { self.new ≡ tallied self.old bytes shipment.now }

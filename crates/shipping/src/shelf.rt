@@ -1,11 +1,11 @@
 // The shelves of the archive.
-ghost use Rattle.std.specs.Prelude.{◌≡◌, Some};
-ghost use Rattle.shipping.specs.declared.shelf.Shelf.{Shelf as ShelfModel};
-ghost use Rattle.shipping.specs.Shelves.{name_of, Named};
+ghost use Rattle.std.specs.Prelude.{Some};
+ghost use Rattle.shipping.specs.Shelves.{name_of, Reads};
 
 use std::fmt;
+use std::str::FromStr;
 
-#[derive(Clone, Copy)]
+#[derive(Clone, Copy, Debug, PartialEq, Eq)]
 pub enum Shelf {
     // Impulse responses of rooms.
     Response,
@@ -27,17 +27,22 @@ impl fmt::Display for Shelf {
     }
 }
 
-impl Shelf {
-    // The shelf that is printed so. No other text is a shelf.
-    pub fn from_name(name: &str) -> Option<Shelf>
-        ensures back { (s : ShelfModel) → name.now ≡ name_of s → result ≡ Some s }
-        ensures only { Named name.now result }
-    {
+// No shelf has this name.
+#[derive(Clone, Copy, Debug, PartialEq, Eq)]
+pub struct UnknownShelf;
+
+// The shelf that is printed so. No other text is a shelf.
+impl FromStr for Shelf {
+    type Err = UnknownShelf;
+
+    ghost from_str_gives = { Reads };
+
+    fn from_str(name: &str) -> Result<Shelf, UnknownShelf> {
         match name {
-            "response" => Some(Shelf::Response),
-            "mesh" => Some(Shelf::Mesh),
-            "raylog" => Some(Shelf::RayLog),
-            _ => None,
+            "response" => Ok(Shelf::Response),
+            "mesh" => Ok(Shelf::Mesh),
+            "raylog" => Ok(Shelf::RayLog),
+            _ => Err(UnknownShelf),
         }
     }
 }

@@ -1,7 +1,7 @@
 // Reading a queue out into the archive.
 ghost use Rattle.std.specs.Prelude.{◌≡◌, OnOk};
 ghost use Rattle.queue.specs.Queues.{model_of};
-ghost use Rattle.shipping.specs.Archives.{intake_of, took_all};
+ghost use Rattle.shipping.specs.Archives.{took_all};
 ghost use Rattle.shipping.specs.Unloading.{emptied};
 
 use crate::archive::Archive;
@@ -11,10 +11,10 @@ use queue::queue::Queue;
 // All frames that wait, by way of `out`, which is to be as wide as the queue's payloads.
 pub fn unload(queue: &mut Queue, out: &mut [u8], archive: &mut Archive) -> Result<(), OutOfMemory>
     ensures queue { OnOk result (model_of queue.new ≡ emptied (model_of queue.old)) }
-    ensures archive { OnOk result (intake_of archive.new ≡ took_all (model_of queue.old).waiting (intake_of archive.old)) }
+    ensures archive { OnOk result (archive.new ≡ took_all (model_of queue.old).waiting archive.old) }
 {
-    while let Some(frame) = queue.take(out)? {
-        archive.receive(frame.kind, &frame.header, &out[0..frame.len])?;
+    while let Some(place) = queue.take(out)? {
+        archive.receive(place.frame(out))?;
     }
     Ok(())
 }

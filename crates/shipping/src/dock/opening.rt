@@ -1,15 +1,15 @@
 // Opening a dock: memory, and a link that is attached at both ends.
-ghost use Rattle.std.specs.Prelude.{◌≡◌, ℕ, true, IfOk};
+ghost use Rattle.std.specs.Prelude.{◌≡◌, ℕ, IfOk, IsOkAnd};
 ghost use Rattle.queue.specs.Queues.{model_of, empty};
-ghost use Rattle.link.specs.Views.{Rooms, fresh};
-ghost use Rattle.sender.specs.Views.{rooms_of, view};
+ghost use Rattle.link.specs.Views.{Rooms, fresh, made};
+ghost use Rattle.sender.specs.Views.{rooms_of};
 ghost use Rattle.shipping.specs.Openings.{rooms_in, seats_in, settings_for, Answering, opened, AttachedIn, Opening};
 
 use super::Dock;
 use crate::archive::Archive;
 use crate::report::{OutOfMemory, ShipError};
+use amqp::error::MakeError;
 use amqp::mode::{ReceiverSettleMode, SenderSettleMode};
-use amqp::tag::DeliveryTag;
 use link::attach::Attach;
 use link::resumption::ResumingDelivery;
 use link::seat::Seat;
@@ -18,7 +18,7 @@ use queue::place::Place as QueuePlace;
 use queue::queue::Queue;
 use sender::sender_link::SenderLink;
 use std::alloc::{AllocError, Global};
-use unsettled::message::{Place, UnsettledMessage};
+use unsettled::message::UnsettledMessage;
 use unsettled::peer::PeerDelivery;
 use unsettled::slot::Slot;
 
@@ -44,37 +44,49 @@ impl LinkMemory {
     pub fn new(heap: Global) -> Result<LinkMemory, AllocError>
         ensures { IfOk result (λ m. (rooms_in m ≡ rooms_of 16 16 16) × (seats_in m ≡ 16)) }
     {
-        let blank = Slot {
-            tag: DeliveryTag::from_count(0),
-            entry: UnsettledMessage {
-                place: Place { start: 0, len: 0 },
-                state: None,
-                message_format: 0,
-                ticket: 0,
-            },
-        };
+        LinkMemory::with_entries(heap, ENTRIES)
+    }
+
+    // Memory for so many deliveries.
+    pub fn with_entries(heap: Global, entries: usize) -> Result<LinkMemory, AllocError>
+        ensures { IfOk result (λ m. (rooms_in m ≡ rooms_of entries entries entries) × (seats_in m ≡ entries)) }
+    {
+        let blank = Slot::<UnsettledMessage>::default();
         Ok(LinkMemory {
-            table: vec![in heap; blank; ENTRIES]?,
-            resume: vec![in heap; ResumingDelivery::Resend(blank); ENTRIES]?,
-            resend: vec![in heap; blank; ENTRIES]?,
-            seats: vec![in heap; Seat::Free; ENTRIES]?,
+            table: vec![in heap; blank; entries]?,
+            resume: vec![in heap; ResumingDelivery::Resend(blank); entries]?,
+            resend: vec![in heap; blank; entries]?,
+            seats: vec![in heap; Seat::Free; entries]?,
         })
+    }
+
+    // A link in this memory, with nothing in its table.
+    pub fn link(
+        &mut self,
+        settings: Settings,
+        initial_delivery_count: u32,
+    ) -> Result<SenderLink<'_>, MakeError>
+        ensures { result ≡ made settings initial_delivery_count (rooms_in self.old) (seats_in self.old) }
+    {
+        SenderLink::new(
+            settings,
+            initial_delivery_count,
+            &mut self.table,
+            &mut self.resume,
+            &mut self.resend,
+            &mut self.seats,
+        )
     }
 }
 
 // A queue of so many places, each as wide as asked.
-pub(super) fn empty_queue(heap: Global, places: usize, widest: usize) -> Result<Queue, OutOfMemory>
+pub fn empty_queue(heap: Global, places: usize, widest: usize) -> Result<Queue, OutOfMemory>
     ensures { IfOk result (λ q. model_of q ≡ empty places widest) }
 {
-    let Some(size) = places.checked_mul(widest) else {
-        return Err(OutOfMemory);
-    };
+    let size = places.checked_mul(widest).ok_or(OutOfMemory)?;
     let places = vec![in heap; QueuePlace::blank(); places]?;
     let bytes = vec![in heap; 0u8; size]?;
-    match Queue::new(places, bytes, widest) {
-        Ok(queue) => Ok(queue),
-        Err(_) => Err(OutOfMemory),
-    }
+    Queue::new(places, bytes, widest).map_err(|_| OutOfMemory)
 }
 
 // Memory to read payloads to.
@@ -82,8 +94,20 @@ fn reader(heap: Global, widest: usize) -> Result<Vec<u8>, OutOfMemory> {
     Ok(vec![in heap; 0u8; widest]?)
 }
 
-// The archive's attach: it knows these deliveries of ours.
-fn answering<'p>(unsettled: &'p [PeerDelivery<'p>]) -> Attach<'p>
+// How a link goes that sends unsettled, in frames of this size: the receiver settles first, and no message is too long.
+pub fn settings_for(max_frame_size: usize) -> Settings
+    ensures { result ≡ settings_for max_frame_size }
+{
+    Settings {
+        snd_settle_mode: SenderSettleMode::Unsettled,
+        rcv_settle_mode: ReceiverSettleMode::First,
+        max_message_size: 0,
+        max_frame_size,
+    }
+}
+
+// The other end's attach: it knows these deliveries of ours.
+pub fn answering<'p>(unsettled: &'p [PeerDelivery<'p>]) -> Attach<'p>
     ensures { Answering unsettled.now result }
 {
     Attach {
@@ -97,45 +121,25 @@ fn answering<'p>(unsettled: &'p [PeerDelivery<'p>]) -> Attach<'p>
     }
 }
 
-// Our attach goes out, and the archive's comes. Whether the link took both, as a new one does.
-fn attach_ends(link: &mut SenderLink<'_>) -> bool
-    ensures { (frame seats : ℕ) (rooms : Rooms) → view link.old ≡ fresh (settings_for frame) 0 rooms seats → (result ≡ true) × (view link.new ≡ opened frame 0 rooms seats) }
+// Our attach goes out, and the archive's comes. A new link takes both.
+fn attach_ends(link: &mut SenderLink<'_>) -> Result<(), ShipError>
+    ensures { (frame seats : ℕ) (rooms : Rooms) → link.old ≡ fresh (settings_for frame) 0 rooms seats → IsOkAnd result (λ _. link.new ≡ opened frame 0 rooms seats) }
 {
-    let sent = link.open(0, false).is_ok();
-    let came = link.attach(&answering(&[]), &[]).is_ok();
-    sent && came
+    link.open(0, false).map_err(|_| ShipError::Link)?;
+    link.attach(&answering(&[]), &[])
+        .map_err(|_| ShipError::Link)?;
+    Ok(())
 }
 
 // A link that sends unsettled, in frames of this size, attached at both ends.
-fn attached<'a>(
-    memory: &'a mut LinkMemory,
-    max_frame_size: usize,
-) -> Result<SenderLink<'a>, ShipError>
+fn attached(memory: &mut LinkMemory, max_frame_size: usize) -> Result<SenderLink<'_>, ShipError>
     ensures { AttachedIn memory.old max_frame_size result }
 {
-    let settings = Settings {
-        snd_settle_mode: SenderSettleMode::Unsettled,
-        rcv_settle_mode: ReceiverSettleMode::First,
-        max_message_size: 0,
-        max_frame_size,
-    };
-    match SenderLink::new(
-        settings,
-        0,
-        &mut memory.table,
-        &mut memory.resume,
-        &mut memory.resend,
-        &mut memory.seats,
-    ) {
-        Ok(mut link) => {
-            if attach_ends(&mut link) {
-                Ok(link)
-            } else {
-                Err(ShipError::Link)
-            }
-        }
-        Err(_) => Err(ShipError::Link),
-    }
+    let mut link = memory
+        .link(settings_for(max_frame_size), 0)
+        .map_err(|_| ShipError::Link)?;
+    attach_ends(&mut link)?;
+    Ok(link)
 }
 
 impl<'a> Dock<'a> {

@@ -1,12 +1,10 @@
 // Sending a message, however little the queue holds.
-ghost use Rattle.std.specs.Prelude.{◌≡◌, length, Decides, OnOk};
-ghost use Rattle.amqp.specs.declared.error.SendError.TheVariants.{NoCredit, SinkFull};
+ghost use Rattle.std.specs.Prelude.{◌≡◌, length, OnOk};
 ghost use Rattle.link.specs.Calls.{Flow, step};
 ghost use Rattle.link.specs.Sending.{carrier};
 ghost use Rattle.sender.specs.Sends.{Sends};
-ghost use Rattle.shipping.specs.declared.report.ShipError.TheVariants.{Refused};
-ghost use Rattle.shipping.specs.Archives.{intake_of, granting};
-ghost use Rattle.shipping.specs.Docks.{link_of, queue_of, roomier, plain, Sending, SendingAgain};
+ghost use Rattle.shipping.specs.Archives.{granting};
+ghost use Rattle.shipping.specs.Docks.{roomier, plain, Sending, SendingAgain};
 
 use super::Dock;
 use super::opening::empty_queue;
@@ -19,34 +17,24 @@ use sender::ticket::Settlement;
 use sink::sink::Sink;
 use unsettled::message::Place;
 
-// The message did not fit into the sink.
-fn is_full(e: SendError) -> bool
-    ensures { Decides result (e ≡ SinkFull) }
+// A message that is the whole pool.
+pub fn plain(len: usize) -> Sendable
+    ensures { result ≡ plain len }
 {
-    match e {
-        SendError::SinkFull => true,
-        _ => false,
-    }
-}
-
-// The archive has granted no credit for the message.
-fn wants_credit(e: ShipError) -> bool
-    ensures { Decides result (e ≡ Refused NoCredit) }
-{
-    match e {
-        ShipError::Refused(refusal) => match refusal {
-            SendError::NoCredit => true,
-            _ => false,
-        },
-        _ => false,
+    Sendable {
+        place: Place { start: 0, len },
+        message_format: 0,
+        settled: None,
+        state: None,
+        batchable: false,
     }
 }
 
 impl<'a> Dock<'a> {
     // The archive grants its credit anew, from what it has seen.
     pub(super) fn grant(&mut self)
-        ensures link { link_of self.new ≡ step (link_of self.old) (Flow (granting self.old.credit (intake_of self.old.archive))) }
-        ensures queue { queue_of self.new ≡ queue_of self.old }
+        ensures link { self.new.link ≡ step self.old.link (Flow (granting self.old.credit self.old.archive)) }
+        ensures queue { self.new.queue ≡ self.old.queue }
     {
         let flow = self.archive.grant(self.credit);
         let _ = self.link.flow(&flow);
@@ -54,8 +42,8 @@ impl<'a> Dock<'a> {
 
     // Reads the queue out, or makes it larger where nothing waits in it.
     fn make_room(&mut self) -> Result<(), OutOfMemory>
-        ensures link { link_of self.new ≡ link_of self.old }
-        ensures queue { OnOk result (queue_of self.new ≡ roomier (queue_of self.old)) }
+        ensures link { self.new.link ≡ self.old.link }
+        ensures queue { OnOk result (self.new.queue ≡ roomier self.old.queue) }
     {
         let before = self.queue.vacancy();
         unload(&mut self.queue, &mut self.out, &mut self.archive)?;
@@ -70,19 +58,10 @@ impl<'a> Dock<'a> {
     }
 
     fn try_send<E: Encoder>(&mut self, encoder: &E, message: &[u8]) -> Result<Settlement, SendError>
-        ensures { Sends (link_of self.old) (carrier (E.bytes encoder.now) message.now (queue_of self.old)) (plain (length message.now)) result (link_of self.new) (queue_of self.new) }
+        ensures { Sends self.old.link (carrier (E.bytes encoder.now) message.now self.old.queue) (plain (length message.now)) result self.new.link self.new.queue }
     {
-        let sendable = Sendable {
-            place: Place {
-                start: 0,
-                len: message.len(),
-            },
-            message_format: 0,
-            settled: None,
-            state: None,
-            batchable: false,
-        };
-        self.link.send(&mut self.queue, encoder, message, &sendable)
+        self.link
+            .send(&mut self.queue, encoder, message, &plain(message.len()))
     }
 
     // Tries until the queue has room for all frames of the message.
@@ -91,17 +70,14 @@ impl<'a> Dock<'a> {
         encoder: &E,
         message: &[u8],
     ) -> Result<Settlement, ShipError>
-        ensures { Sending (link_of self.old) (E.bytes encoder.now) message.now (queue_of self.old) result (link_of self.new) (queue_of self.new) }
+        ensures { Sending self.old.link (E.bytes encoder.now) message.now self.old.queue result self.new.link self.new.queue }
     {
         loop {
             match self.try_send(encoder, message) {
                 Ok(settlement) => return Ok(settlement),
-                Err(e) => {
-                    if !is_full(e) {
-                        return Err(ShipError::Refused(e));
-                    }
-                    self.make_room()?;
-                }
+                // A guard and no pattern: after a pattern the proof would not know that the last arm's error is another.
+                Err(e) if e == SendError::SinkFull => self.make_room()?,
+                Err(e) => return Err(e.into()),
             }
         }
     }
@@ -112,17 +88,14 @@ impl<'a> Dock<'a> {
         encoder: &E,
         message: &[u8],
     ) -> Result<Settlement, ShipError>
-        ensures { SendingAgain (link_of self.old) (E.bytes encoder.now) message.now (queue_of self.old) result (link_of self.new) (queue_of self.new) }
+        ensures { SendingAgain self.old.link (E.bytes encoder.now) message.now self.old.queue result self.new.link self.new.queue }
     {
         match self.send_in_room(encoder, message) {
-            Ok(settlement) => Ok(settlement),
-            Err(e) => {
-                if !wants_credit(e) {
-                    return Err(e);
-                }
+            Err(ShipError::Refused(SendError::NoCredit)) => {
                 self.grant();
                 self.send_in_room(encoder, message)
             }
+            sent => sent,
         }
     }
 }

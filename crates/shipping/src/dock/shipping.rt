@@ -1,49 +1,27 @@
 // Shipping a file: its message is sent, read and judged at the other end, and the ticket collected.
 ghost use Rattle.std.specs.Prelude.{◌≡◌, length, IfOk, OnOk};
-ghost use Rattle.shipping.specs.Archives.{intake_of, took_all};
-ghost use Rattle.shipping.specs.Docks.{link_of, queue_of, Answered, shipment_of, Settling, AtRest, Shipping};
+ghost use Rattle.shipping.specs.Archives.{took_all};
+ghost use Rattle.shipping.specs.Docks.{Answered, Settling, AtRest, Shipping};
 ghost use Rattle.shipping.specs.Sections.{data_section};
 ghost use Rattle.shipping.specs.Unloading.{emptied};
 
 use super::Dock;
-use crate::archive::judge;
-use crate::message::{MessageError, data_section};
+use crate::message::data_section;
 use crate::report::{OutOfMemory, ShipError, Shipment};
 use crate::unload::unload;
-use amqp::error::{SendError, TicketError};
 use codec::encoder::Encoder;
-use link::delivery::Progress;
 use sender::ticket::{Settlement, Ticket};
 use sink::sink::Sink;
-
-fn shipment(
-    ticket: u32,
-    taken: Result<usize, OutOfMemory>,
-    told: Result<Progress, TicketError>,
-) -> Result<Shipment, ShipError>
-    ensures { result ≡ shipment_of ticket taken told }
-{
-    match (taken, told) {
-        (Ok(frames), Ok(progress)) => Ok(Shipment {
-            frames,
-            ticket,
-            progress,
-        }),
-        (Err(_), _) => Err(ShipError::NoMemory),
-        (Ok(_), Err(_)) => Err(ShipError::Link),
-    }
-}
 
 impl<'a> Dock<'a> {
     // The archive reads what waits, and answers for the message that it makes: how many frames there were.
     fn take_in(&mut self, message: &[u8]) -> Result<usize, OutOfMemory>
-        ensures queue { IfOk result (λ n. (queue_of self.new ≡ emptied (queue_of self.old)) × (n ≡ length (queue_of self.old).waiting)) }
-        ensures link { OnOk result (Answered (took_all (queue_of self.old).waiting (intake_of self.old.archive)) message.now (link_of self.old) (link_of self.new)) }
+        ensures queue { IfOk result (λ n. (self.new.queue ≡ emptied self.old.queue) × (n ≡ length self.old.queue.waiting)) }
+        ensures link { OnOk result (Answered (took_all self.old.queue.waiting self.old.archive) message.now self.old.link self.new.link) }
     {
         let before = self.queue.vacancy();
         unload(&mut self.queue, &mut self.out, &mut self.archive)?;
-        if let Some(tag) = self.archive.tag {
-            let state = judge(self.archive.joined.as_slice(), message);
+        if let Some((tag, state)) = self.archive.answer(message) {
             let _ = self.link.disposition(&tag, true, Some(state));
         }
         Ok(self.queue.vacancy().saturating_sub(before))
@@ -51,12 +29,16 @@ impl<'a> Dock<'a> {
 
     // The ticket is collected on every way out.
     fn settle(&mut self, ticket: Ticket, message: &[u8]) -> Result<Shipment, ShipError>
-        ensures { Settling (link_of self.old) (queue_of self.old) (intake_of self.old.archive) message.now ticket.number result (link_of self.new) (queue_of self.new) }
+        ensures { Settling self.old.link self.old.queue self.old.archive message.now ticket.number result self.new.link self.new.queue }
     {
         let number = ticket.number();
         let taken = self.take_in(message);
         let told = self.link.collect(ticket);
-        shipment(number, taken, told)
+        Ok(Shipment {
+            frames: taken?,
+            ticket: number,
+            progress: told?,
+        })
     }
 
     fn ship_message<E: Encoder>(
@@ -64,26 +46,19 @@ impl<'a> Dock<'a> {
         encoder: &E,
         message: &[u8],
     ) -> Result<Shipment, ShipError>
-        ensures { AtRest (link_of self.old) (queue_of self.old) → Shipping (link_of self.old) (E.bytes encoder.now) message.now result (link_of self.new) (queue_of self.new) }
+        ensures { AtRest self.old.link self.old.queue → Shipping self.old.link (E.bytes encoder.now) message.now result self.new.link self.new.queue }
     {
-        match self.send(encoder, message) {
-            Ok(settlement) => match settlement {
-                Settlement::Unsettled(ticket) => self.settle(ticket, message),
-                Settlement::Settled(_) => Err(ShipError::Link),
-            },
-            Err(e) => Err(e),
+        match self.send(encoder, message)? {
+            Settlement::Unsettled(ticket) => self.settle(ticket, message),
+            Settlement::Settled(_) => Err(ShipError::Link),
         }
     }
 
     // Ships a file. Where no delivery is under way before, it is accepted, or refused and nothing is under way.
     pub fn ship<E: Encoder>(&mut self, encoder: &E, file: &[u8]) -> Result<Shipment, ShipError>
-        ensures { AtRest (link_of self.old) (queue_of self.old) → Shipping (link_of self.old) (E.bytes encoder.now) (data_section file.now) result (link_of self.new) (queue_of self.new) }
+        ensures { AtRest self.old.link self.old.queue → Shipping self.old.link (E.bytes encoder.now) (data_section file.now) result self.new.link self.new.queue }
     {
-        match data_section(self.heap, file) {
-            Ok(message) => self.ship_message(encoder, message.as_slice()),
-            Err(MessageError::NoMemory) => Err(ShipError::NoMemory),
-            // No pool is so long either.
-            Err(MessageError::TooLong) => Err(ShipError::Refused(SendError::OutsidePool)),
-        }
+        let message = data_section(self.heap, file)?;
+        self.ship_message(encoder, message.as_slice())
     }
 }

@@ -1,16 +1,22 @@
-use Rattle.std.proofs.Common.{◌≡◌, ℕ, arith}
-use Rattle.shipping.specs.Openings.{rooms_in, seats_in, settings_for}
+use Rattle.std.proofs.Common.{ap, ◌∙◌}
+use Rattle.link.specs.declared.settings.Settings.{Settings}
+use Rattle.link.specs.Views.{fresh}
+use Rattle.shipping.specs.Openings.{rooms_in, seats_in}
 use Rattle.shipping.proofs.Attaches.{new_link}
 use Rattle.shipping.proofs.dock.opening.attached.Goals as goal
 
-pub returns-then-attach_ends : goal.returns-then-attach_ends
-returns-then-attach_ends c =
-    let new = new_link (settings_for c.args.max_frame_size) _ _ _ _ _ _ _ _ _ c.deref_mut.ensures.len c.deref_mut-2.ensures.len c.deref_mut-3.ensures.len c.deref_mut-4.ensures.len c.in-Ok.ensures.link in
-    (new.0, (c.attach_ends.ensures c.args.max_frame_size (seats_in c.args.memory.now) (rooms_in c.args.memory.now) new.1).1)
+pub returns : goal.returns
+returns c =
+    let rooms = rooms_in c.args.memory.now in
+    let seats = seats_in c.args.memory.now in
+    let new = new_link c.settings_for.result rooms seats _ _ _ _ c.link.ensures c.map_err.ensures.cases c.map_err.ensures.variant c.in_ok-link.was in
+    let is = new.1 ∙ ap (λ (s : Settings). fresh s 0 rooms seats) c.settings_for.ensures in
+    (new.0, rw c.in_ok-attach_ends.was at (c.attach_ends.ensures c.args.max_frame_size seats rooms is))
 
-pub returns-else-attach_ends : goal.returns-else-attach_ends
-returns-else-attach_ends c =
-    let new = new_link (settings_for c.args.max_frame_size) _ _ _ _ _ _ _ _ _ c.deref_mut.ensures.len c.deref_mut-2.ensures.len c.deref_mut-3.ensures.len c.deref_mut-4.ensures.len c.in-Ok.ensures.link in
-    let yes = (c.attach_ends.ensures c.args.max_frame_size (seats_in c.args.memory.now) (rooms_in c.args.memory.now) new.1).0 in
-    let no = c.if-attach_ends.false in
-    let z : ◌≡◌ {A = ℕ} 0 1 = cc in absurd (omega arith)
+pub returns-in_err-attach_ends : goal.returns-in_err-attach_ends
+returns-in_err-attach_ends c =
+    let rooms = rooms_in c.args.memory.now in
+    let seats = seats_in c.args.memory.now in
+    let new = new_link c.settings_for.result rooms seats _ _ _ _ c.link.ensures c.map_err.ensures.cases c.map_err.ensures.variant c.in_ok-link.was in
+    let is = new.1 ∙ ap (λ (s : Settings). fresh s 0 rooms seats) c.settings_for.ensures in
+    absurd (rw c.in_err-attach_ends.was at (c.attach_ends.ensures c.args.max_frame_size seats rooms is))
