@@ -50,5 +50,4 @@ impl DeliveryTag {
 // Two tags with the same bytes are one tag, and a count's tag has its four bytes.
 pub fn same_bytes_same_tag()
     ensures { SameBytesSameTag }
-{
-}
+{}

@@ -1,46 +1,33 @@
--- Comparing byte by byte from the front.
-use Rattle.std.proofs.Common.{◌≡◌, ℕ, zero, suc, ◌+◌, ◌-◌, ◌<◌, ◌≤◌, Bool, true, false, cond, eqb, List, [], ◌∷◌, length, get_or, drop, refl, arith}
-use Rattle.std.proofs.lemmas.List.{drop_more, drop_all}
-use Rattle.std.proofs.lemmas.Bool.{ne_eqb, eq-eqb}
+-- Bytes that are the same from the front, and zeros from the back.
+use Rattle.std.proofs.Common.{◌≡◌, ℕ, zero, suc, ◌-◌, ◌≤◌, Bool, true, false, cond, eqb, List, [], ◌∷◌, length, get_or, take, refl, arith}
+use Rattle.std.specs.List.{zip, prefix_len, suffix_len}
+use Rattle.std.proofs.lemmas.List.Sums.{suffix_len-take_yes, suffix_len-take_no}
 use Rattle.reader.specs.Agree.{agree, past_zeros}
 
-none : (zs : List ℕ) → agree zs [] ≡ 0
-none [] = refl
-none (z ∷ zs) = refl
+abbrev pub alike : ℕ × ℕ → Bool
+alike p = eqb p.0 p.1
 
-pub agree_within : (xs ys : List ℕ) → agree xs ys ≤ length xs
-agree_within [] ys = omega arith
-agree_within (x ∷ xs) [] = omega arith
-agree_within (x ∷ xs) (y ∷ ys) = go (eqb x y) (agree_within xs ys)
+pub agree-zip : (xs ys : List ℕ) → prefix_len alike (zip xs ys) ≡ agree xs ys
+agree-zip [] ys = refl
+agree-zip (x ∷ xs) [] = refl
+agree-zip (x ∷ xs) (y ∷ ys) = rw (agree-zip xs ys)
+
+abbrev pub is_zero : ℕ → Bool
+is_zero b = eqb b 0
+
+-- as many zeros as stand before a place are passed
+pub zeros : (src : List ℕ) (n : ℕ) → n ≤ length src → past_zeros src n ≡ n - suffix_len is_zero (take n src)
+zeros src zero l = refl
+zeros src (suc n) l =
+    let s : suc n - 1 ≡ n = omega arith in
+    go s (zeros src n (omega arith)) (eqb (get_or src n 0) 0) refl
   where
-    go : (b : Bool) → agree xs ys ≤ length xs → cond b (suc (agree xs ys)) 0 ≤ suc (length xs)
-    go true l = omega arith
-    go false l = omega arith
-
-module _ (xs ys : List ℕ) (i n : ℕ) (v : i + agree (drop i xs) (drop i ys) ≡ n) where
-  pub over_left : length xs ≤ i → i ≡ n
-  over_left l = let e = drop_all i xs l in let w : i + 0 ≡ n = rw e at v in omega arith
-
-  pub over_right : length ys ≤ i → i ≡ n
-  over_right l = let e = drop_all i ys l in let w : i + 0 ≡ n = rw (e, none (drop i xs)) at v in omega arith
-
-  pub differs : i < length xs → i < length ys → (get_or xs i 0 ≡ get_or ys i 0 → ⊥) → i ≡ n
-  differs l m d = let w : i + 0 ≡ n = rw (drop_more xs i 0 l, drop_more ys i 0 m, ne_eqb (get_or xs i 0) (get_or ys i 0) d) at v in omega arith
-
-  pub goes_on : i < length xs → i < length ys → get_or xs i 0 ≡ get_or ys i 0 → i + 1 + agree (drop (i + 1) xs) (drop (i + 1) ys) ≡ n
-  goes_on l m e =
-      let w : i + suc (agree (drop (i + 1) xs) (drop (i + 1) ys)) ≡ n = rw (drop_more xs i 0 l, drop_more ys i 0 m, eq-eqb (get_or xs i 0) (get_or ys i 0) e) at v in omega arith
-
-pub zero_passed : (src : List ℕ) (n : ℕ) → 0 < n → get_or src (n - 1) 0 ≡ 0 → past_zeros src n ≡ past_zeros src (n - 1)
-zero_passed src zero l e = absurd (omega arith)
-zero_passed src (suc m) l e =
-    let z : suc m - 1 ≡ m = omega arith in
-    let f : get_or src m 0 ≡ 0 = rw z at e in
-    rw (z, eq-eqb (get_or src m 0) 0 f)
-
-pub no_zero : (src : List ℕ) (n : ℕ) → 0 < n → (get_or src (n - 1) 0 ≡ 0 → ⊥) → past_zeros src n ≡ n
-no_zero src zero l e = absurd (omega arith)
-no_zero src (suc m) l e =
-    let z : suc m - 1 ≡ m = omega arith in
-    let f : get_or src m 0 ≡ 0 → ⊥ = rw z at e in
-    rw (ne_eqb (get_or src m 0) 0 f)
+    go : suc n - 1 ≡ n → past_zeros src n ≡ n - suffix_len is_zero (take n src) → (b : Bool) → eqb (get_or src n 0) 0 ≡ b → cond b (past_zeros src n) (suc n) ≡ suc n - suffix_len is_zero (take (suc n) src)
+    go s r true e =
+        let f : is_zero (get_or src (suc n - 1) 0) ≡ true = rw s e in
+        let h = rw s at (suffix_len-take_yes is_zero src (suc n) 0 (omega arith) l f) in
+        omega arith
+    go s r false e =
+        let f : is_zero (get_or src (suc n - 1) 0) ≡ false = rw s e in
+        let h = suffix_len-take_no is_zero src (suc n) 0 (omega arith) l f in
+        omega arith

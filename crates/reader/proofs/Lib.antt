@@ -1,3 +1,3 @@
 pub mod Agrees
-pub mod Fronts
-pub mod Names
+pub mod Bytes
+pub mod Compared

@@ -4,11 +4,10 @@ use Rattle.std.proofs.Math.Path.{refl}
 use Rattle.std.proofs.Common.{arith}
 use Rattle.std.proofs.lemmas.List.{length-append}
 use Rattle.std.proofs.lemmas.Bool.{lt-ltb, ne_eqb, eq-eqb}
-use Rattle.codec_forms.specs.Amqp.{Val, Vals, nil, cons, null}
-use Rattle.codec_forms.specs.Form.{encoded, kept, absent, left_out, keep, concat}
-use Rattle.codec_forms.specs.Values.{optional, flag}
-use Rattle.reader.specs.declared.cursor.Cursor.{Cursor}
-use Rattle.reader.specs.Places.{Reader, Has, then}
+use Rattle.codec.specs.Amqp.{Val, Vals, nil, cons, null}
+use Rattle.codec.specs.Form.{encoded, kept, absent, left_out, keep, concat}
+use Rattle.codec.specs.Values.{optional, flag}
+use Rattle.reader.specs.Places.{Cursor, Reader, Has, then}
 use Rattle.reader.specs.Fields.{must_at, absent_at, may_at, null_at, set_of, flag_at}
 use Rattle.reader.specs.Reading.{Reading}
 use Rattle.reader.specs.Fits.{Within}

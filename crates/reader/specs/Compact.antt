@@ -1,18 +1,13 @@
 -- How the compact form is read.
 use Rattle.std.specs.Prelude.{ℕ, ◌+◌, Bool, true, false, cond, List, length, Ok, Err, Result, ◌==◌, nat_lt, slice_index}
-use Rattle.codec_forms.specs.Compact.{compact_form}
-use Rattle.reader.specs.declared.cursor.Cursor.{Cursor}
-use Rattle.reader.specs.Places.{Reader, then, coded_at, sized_of, number4, number8}
+use Rattle.codec.specs.Compact.{compact_form}
+use Rattle.reader.specs.Places.{Cursor, Reader, then, coded_at}
+use Rattle.reader.specs.Numbers.{from_at, sized_at}
 use Rattle.reader.specs.Reading.{Reading}
 
 -- one byte, which is not 0: a 0 has a shorter code
 abbrev pub small_at : Reader ℕ
 small_at src at = cond (nat_lt at (length src)) (cond (slice_index src at == 0) (Err at) (Ok (slice_index src at, at + 1))) (Err at)
-
--- all bytes of a number that one byte cannot hold
-abbrev pub large_at : ℕ → (List ℕ → ℕ → ℕ) → Reader ℕ
-large_at width number src at =
-    cond (nat_lt (length src) (at + width)) (Err (length src)) (cond (nat_lt (number src at) 256) (Err at) (Ok (number src at, at + width)))
 
 -- a number: a code for 0, a code and a byte, a code and all bytes
 abbrev pub number_at : ℕ → ℕ → ℕ → Reader ℕ → Reader ℕ
@@ -25,10 +20,6 @@ number_at none small all whole src at =
 abbrev pub compact_bool_at : Reader Bool
 compact_bool_at src at =
     cond (nat_lt at (length src)) (cond (slice_index src at == 0x41) (Ok (true, at + 1)) (cond (slice_index src at == 0x42) (Ok (false, at + 1)) (Err at))) (Err at)
-
--- bytes after their code and their number
-abbrev pub compact_sized_at : ℕ → ℕ → Reader ℕ
-compact_sized_at code most src at = then (coded_at code 1 src at) (λ p. sized_of src most (slice_index src p) p (p + 1))
 
 -- no fields have a code of their own
 abbrev pub count_at : ℕ → ℕ → ℕ → ℕ → Result Cursor ℕ
@@ -46,10 +37,10 @@ abbrev pub compact_reading : Reading
 compact_reading =
     record {
       form = compact_form;
-      uint_at = number_at 0x43 0x52 0x70 (large_at 4 number4);
-      ulong_at = number_at 0x44 0x53 0x80 (large_at 8 number8);
+      uint_at = number_at 0x43 0x52 0x70 (from_at 4 256);
+      ulong_at = number_at 0x44 0x53 0x80 (from_at 8 256);
       bool_at = compact_bool_at;
-      binary_at = compact_sized_at 0xa0;
-      symbol_at = compact_sized_at 0xa3;
+      binary_at = sized_at 1 0xa0;
+      symbol_at = sized_at 1 0xa3;
       list_at = compact_list_at;
     }

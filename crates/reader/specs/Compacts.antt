@@ -3,15 +3,19 @@ use Rattle.std.specs.Prelude.{◌≡◌, ℕ, suc, ◌+◌, ◌<◌, ◌≤◌, 
 use Rattle.std.proofs.Common.{sym, ◌∙◌, arith}
 use Rattle.std.proofs.lemmas.Bool.{eqb-true, lt-ltb, le-ltb, ne_eqb, eq-eqb, false≢true}
 use Rattle.amqp.specs.Tags.{be4}
-use Rattle.codec_forms.specs.Amqp.{Val, Vals, nil, cons, count, null, bool, uint, ulong, binary, symbol, list, described, be8}
-use Rattle.codec_forms.specs.Form.{encoded, kept, absent, keep, concat, list_of}
-use Rattle.codec_forms.specs.Compact.{compact_form}
-use Rattle.reader.specs.declared.cursor.Cursor.{Cursor}
-use Rattle.reader.specs.Places.{Reader, Has, number4, number8}
-use Rattle.reader.specs.Compact.{large_at, number_at, compact_bool_at, compact_sized_at, compact_list_at, compact_reading}
-use Rattle.reader.specs.Laws.{Tail, Lawful}
+use Rattle.amqp.specs.declared.header.Header.{Header}
+use Rattle.codec.specs.Amqp.{Val, Vals, nil, cons, count, null, bool, uint, ulong, binary, symbol, list, described, be8}
+use Rattle.codec.specs.Form.{encoded, kept, absent, keep, concat, list_of}
+use Rattle.codec.specs.Compact.{compact_form}
+use Rattle.codec.specs.Forms.{compact_lawful as form_lawful}
+use Rattle.codec.specs.Headers.{compact_bytes}
+use Rattle.codec.proofs.Short.{short}
+use Rattle.reader.specs.Places.{Cursor, Reader, Has, number}
+use Rattle.reader.specs.Numbers.{from_at, sized_at}
+use Rattle.reader.specs.Compact.{number_at, compact_bool_at, compact_list_at, compact_reading}
+use Rattle.reader.specs.Laws.{Tail, Lawful, Written}
 use Rattle.reader.specs.Having.{within}
-use Rattle.reader.specs.Digits.{four, eight}
+use Rattle.reader.specs.Digits.{one, four, eight}
 
 unfoldable pub Full : List ℕ → Type 0
 Full bs = (src : List ℕ) (at : ℕ) → Has src at bs → (at < length src) × (slice_index src at ≢ 0x40)
@@ -48,27 +52,27 @@ full (described d v) e = first 0x00 _ (λ z. omega arith)
 -- numbers
 
 module _ (none small all : ℕ) (n1 : nat_eq small none ≡ false) (n2 : nat_eq all none ≡ false) (n3 : nat_eq all small ≡ false) (whole : Reader ℕ) (src : List ℕ) (at x : ℕ) (ys : List ℕ) where
-  number : (b0 b1 : Bool) → (x == 0) ≡ b0 → nat_lt x 256 ≡ b1 → (nat_lt x 256 ≡ false → Has src (at + 1) ys → whole src (at + 1) ≡ Ok (x, at + 1 + length ys)) → Has src at (cond b0 (none ∷ []) (cond b1 (small ∷ x ∷ []) (all ∷ ys))) → number_at none small all whole src at ≡ Ok (x, at + length (cond b0 (none ∷ []) (cond b1 (small ∷ x ∷ []) (all ∷ ys))))
-  number true b1 e0 e1 w (h0, h1, h2) = rw (lt-ltb at (length src) h0, h1, eq-eqb none none refl, eqb-true x 0 e0)
-  number false true e0 e1 w (h0, h1, (k0, k1, k2)) =
+  numbered : (b0 b1 : Bool) → (x == 0) ≡ b0 → nat_lt x 256 ≡ b1 → (nat_lt x 256 ≡ false → Has src (at + 1) ys → whole src (at + 1) ≡ Ok (x, at + 1 + length ys)) → Has src at (cond b0 (none ∷ []) (cond b1 (small ∷ x ∷ []) (all ∷ ys))) → number_at none small all whole src at ≡ Ok (x, at + length (cond b0 (none ∷ []) (cond b1 (small ∷ x ∷ []) (all ∷ ys))))
+  numbered true b1 e0 e1 w (h0, h1, h2) = rw (lt-ltb at (length src) h0, h1, eq-eqb none none refl, eqb-true x 0 e0)
+  numbered false true e0 e1 w (h0, h1, (k0, k1, k2)) =
       let e : at + 1 + 1 ≡ at + 2 = omega arith in
       rw (lt-ltb at (length src) h0, h1, n1, eq-eqb small small refl, lt-ltb (at + 1) (length src) k0, k1, e0) (rw e)
-  number false false e0 e1 w (h0, h1, h2) =
+  numbered false false e0 e1 w (h0, h1, h2) =
       let e : at + 1 + length ys ≡ at + suc (length ys) = omega arith in
       rw (lt-ltb at (length src) h0, h1, n2, n3, eq-eqb all all refl, w e1 h2) (rw e)
 
-large : (width : ℕ) (read : List ℕ → ℕ → ℕ) (src : List ℕ) (at x : ℕ) → nat_lt x 256 ≡ false → (at + width ≤ length src) × (read src at ≡ x) → large_at width read src at ≡ Ok (x, at + width)
-large width read src at x e f = rw (le-ltb (length src) (at + width) f.0, f.1, e)
+large : (width : ℕ) (src : List ℕ) (at x : ℕ) → nat_lt x 256 ≡ false → (at + width ≤ length src) × (number width src at ≡ x) → from_at width 256 src at ≡ Ok (x, at + width)
+large width src at x e f = rw (le-ltb (length src) (at + width) f.0, f.1, e)
 
 bool_back : (src : List ℕ) (at : ℕ) (x : Bool) → Has src at (cond x 0x41 0x42 ∷ []) → compact_bool_at src at ≡ Ok (x, at + 1)
 bool_back src at true (h0, h1, h2) = rw (lt-ltb at (length src) h0, h1)
 bool_back src at false (h0, h1, h2) = rw (lt-ltb at (length src) h0, h1)
 
-span : (code : ℕ) (src : List ℕ) (at most : ℕ) (b : List ℕ) → length b ≤ most → Has src at (code ∷ length b ∷ b) → (s : ℕ) × (compact_sized_at code most src at ≡ Ok (length b, s)) × Has src s b × (s + length b ≡ at + length (code ∷ length b ∷ b))
+span : (code : ℕ) (src : List ℕ) (at most : ℕ) (b : List ℕ) → length b ≤ most → Has src at (code ∷ length b ∷ b) → (s : ℕ) × (sized_at 1 code most src at ≡ Ok (length b, s)) × Has src s b × (s + length b ≡ at + length (code ∷ length b ∷ b))
 span code src at most b l (h0, h1, (k0, k1, k)) =
     let w = within b src (at + 1 + 1) k in (
       at + 1 + 1,
-      rw (lt-ltb at (length src) h0, h1, eq-eqb code code refl, le-ltb (length src) (at + 1 + 1) (omega arith), k1, le-ltb most (length b) l, le-ltb (length src) (at + 1 + 1 + length b) w),
+      rw (lt-ltb at (length src) h0, h1, eq-eqb code code refl, le-ltb (length src) (at + 1 + 1) (omega arith), one src (at + 1), k1, le-ltb most (length b) l, le-ltb (length src) (at + 1 + 1 + length b) w),
       k,
       omega arith,
     )
@@ -80,9 +84,9 @@ at_most true b [] = omega arith
 at_most true b (t ∷ ts) = omega arith
 at_most false b ts = omega arith
 
-short : (vs : Vals) → length (kept compact_form vs) ≤ count vs
-short nil = omega arith
-short (cons v vs) = let s = short vs in omega (arith, at_most (absent v) (encoded compact_form v) (kept compact_form vs))
+few : (vs : Vals) → length (kept compact_form vs) ≤ count vs
+few nil = omega arith
+few (cons v vs) = let s = few vs in omega (arith, at_most (absent v) (encoded compact_form v) (kept compact_form vs))
 
 list_back : (src : List ℕ) (p least most : ℕ) (ts : List (List ℕ)) → least ≤ length ts → length ts ≤ most → Has src p (list_of compact_form ts) → (c : Cursor) × (compact_list_at least most src p ≡ Ok c) × Tail src (p + length (list_of compact_form ts)) c ts
 list_back src p least most [] l m (h0, h1, h2) = (
@@ -111,18 +115,21 @@ compact_lawful =
           record {
             present = λ x. refl;
             back = λ src at x v h.
-                number 0x43 0x52 0x70 refl refl refl (large_at 4 number4) src at x (be4 x) (x == 0) (nat_lt x 256) refl refl
-                (λ e k. large 4 number4 src (at + 1) x e (four src (at + 1) x v k)) h;
+                numbered 0x43 0x52 0x70 refl refl refl (from_at 4 256) src at x (be4 x) (x == 0) (nat_lt x 256) refl refl
+                (λ e k. large 4 src (at + 1) x e (four src (at + 1) x v k)) h;
           };
       ulongs =
           record {
             present = λ x. refl;
             back = λ src at x v h.
-                number 0x44 0x53 0x80 refl refl refl (large_at 8 number8) src at x (be8 x) (x == 0) (nat_lt x 256) refl refl
-                (λ e k. large 8 number8 src (at + 1) x e (eight src (at + 1) x v k)) h;
+                numbered 0x44 0x53 0x80 refl refl refl (from_at 8 256) src at x (be8 x) (x == 0) (nat_lt x 256) refl refl
+                (λ e k. large 8 src (at + 1) x e (eight src (at + 1) x v k)) h;
           };
       bools = record { present = λ x. refl; back = λ src at x v h. bool_back src at x h };
       binaries = λ src at most b l m h. span 0xa0 src at most b l h;
       symbols = λ src at most b l m h. span 0xa3 src at most b l h;
-      lists = λ src p least vs l m h. (let b = list_back src p least (count vs) (kept compact_form vs) l (short vs) h in (b.0, b.1, record { tail = b.2 }));
+      lists = λ src p least vs l m h. (let b = list_back src p least (count vs) (kept compact_form vs) l (few vs) h in (b.0, b.1, record { tail = b.2 }));
     }
+
+pub compact_written : (h : Header) → Written compact_form compact_bytes h
+compact_written h = record { same = refl; short = omega (arith, short compact_form form_lawful.bounds h) }

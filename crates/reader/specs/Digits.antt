@@ -3,11 +3,15 @@ use Rattle.std.specs.Prelude.{◌≡◌, ℕ, ◌+◌, ◌*◌, ◌/◌, ◌%◌
 use Rattle.std.proofs.Common.{arith, ap}
 use Rattle.std.proofs.lemmas.Nat.{shr-shr, div-add-mod'}
 use Rattle.amqp.specs.Tags.{be4}
-use Rattle.codec_forms.specs.Amqp.{be8}
-use Rattle.reader.specs.Places.{Has, number4, number8}
+use Rattle.codec.specs.Amqp.{be8}
+use Rattle.reader.specs.Places.{Has, number}
 
-pub four : (src : List ℕ) (at x : ℕ) → x < 2 ^ 32 → Has src at (be4 x) → (at + 4 ≤ length src) × (number4 src at ≡ x)
+pub one : (src : List ℕ) (at : ℕ) → number 1 src at ≡ slice_index src at
+one src at = let g0 : slice_index_or src (at + 0) 0 ≡ slice_index_or src at 0 = ap (λ k. slice_index src k) (omega arith) in omega arith
+
+pub four : (src : List ℕ) (at x : ℕ) → x < 2 ^ 32 → Has src at (be4 x) → (at + 4 ≤ length src) × (number 4 src at ≡ x)
 four src at x v (a0, a1, (b0, b1, (c0, c1, (d0, d1, z)))) =
+    let g0 : slice_index_or src (at + 0) 0 ≡ slice_index_or src at 0 = ap (λ k. slice_index src k) (omega arith) in
     let g2 : slice_index_or src (at + 1 + 1) 0 ≡ slice_index_or src (at + 2) 0 = ap (λ k. slice_index src k) (omega arith) in
     let g3 : slice_index_or src (at + 1 + 1 + 1) 0 ≡ slice_index_or src (at + 3) 0 = ap (λ k. slice_index src k) (omega arith) in
     let e1 : x / 256 / 256 ≡ x / 65536 = shr-shr x 8 8 in
@@ -39,12 +43,13 @@ join8 x v =
     (div-add-mod' x 256) (rw e1 at (div-add-mod' (x / 256) 256)) (rw e2 at (div-add-mod' (x / 65536) 256)) (rw e3 at (div-add-mod' (x / 16777216) 256))
     (rw e4 at (div-add-mod' (x / 4294967296) 256)) (rw e5 at (div-add-mod' (x / 1099511627776) 256)) (rw e6 at (div-add-mod' (x / 281474976710656) 256)))
 
-pub eight : (src : List ℕ) (at x : ℕ) → x < 2 ^ 64 → Has src at (be8 x) → (at + 8 ≤ length src) × (number8 src at ≡ x)
+pub eight : (src : List ℕ) (at x : ℕ) → x < 2 ^ 64 → Has src at (be8 x) → (at + 8 ≤ length src) × (number 8 src at ≡ x)
 eight src at x v (a0, a1, (b0, b1, (c0, c1, (d0, d1, (e0, e1, (f0, f1, (g0, g1, (h0, h1, z)))))))) =
+    let i0 : slice_index_or src (at + 0) 0 ≡ slice_index_or src at 0 = ap (λ k. slice_index src k) (omega arith) in
     let i2 : slice_index_or src (at + 1 + 1) 0 ≡ slice_index_or src (at + 2) 0 = ap (λ k. slice_index src k) (omega arith) in
     let i3 : slice_index_or src (at + 1 + 1 + 1) 0 ≡ slice_index_or src (at + 3) 0 = ap (λ k. slice_index src k) (omega arith) in
     let i4 : slice_index_or src (at + 1 + 1 + 1 + 1) 0 ≡ slice_index_or src (at + 4) 0 = ap (λ k. slice_index src k) (omega arith) in
-    let i5 : slice_index_or src (at + 1 + 1 + 1 + 1 + 1) 0 ≡ slice_index_or src (at + 4 + 1) 0 = ap (λ k. slice_index src k) (omega arith) in
-    let i6 : slice_index_or src (at + 1 + 1 + 1 + 1 + 1 + 1) 0 ≡ slice_index_or src (at + 4 + 2) 0 = ap (λ k. slice_index src k) (omega arith) in
-    let i7 : slice_index_or src (at + 1 + 1 + 1 + 1 + 1 + 1 + 1) 0 ≡ slice_index_or src (at + 4 + 3) 0 = ap (λ k. slice_index src k) (omega arith) in
+    let i5 : slice_index_or src (at + 1 + 1 + 1 + 1 + 1) 0 ≡ slice_index_or src (at + 5) 0 = ap (λ k. slice_index src k) (omega arith) in
+    let i6 : slice_index_or src (at + 1 + 1 + 1 + 1 + 1 + 1) 0 ≡ slice_index_or src (at + 6) 0 = ap (λ k. slice_index src k) (omega arith) in
+    let i7 : slice_index_or src (at + 1 + 1 + 1 + 1 + 1 + 1 + 1) 0 ≡ slice_index_or src (at + 7) 0 = ap (λ k. slice_index src k) (omega arith) in
     (omega arith, omega (arith, join8 x v))

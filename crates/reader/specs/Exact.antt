@@ -1,7 +1,7 @@
 -- A header is read from its bytes and from nothing else.
 use Rattle.std.specs.Prelude.{◌≡◌, ℕ, List, Ok, Result}
 use Rattle.amqp.specs.declared.header.Header.{Header}
-use Rattle.codec_forms.specs.declared.error.ReadError.{ReadError}
+use Rattle.codec.specs.declared.error.ReadError.{ReadError}
 use Rattle.reader.specs.Fits.{Fits}
 
 -- by an encoder that gives these bytes, src was read as r

@@ -1,7 +1,6 @@
 -- The fields of a list, read one by one.
 use Rattle.std.specs.Prelude.{ℕ, ◌+◌, ◌-◌, Bool, true, false, cond, List, length, Some, None, Ok, Err, Option, Result, ◌==◌, nat_lt, slice_index}
-use Rattle.reader.specs.declared.cursor.Cursor.{Cursor}
-use Rattle.reader.specs.Places.{Found, Reader, then, value_place}
+use Rattle.reader.specs.Places.{Cursor, Found, Reader, then, value_place}
 use Rattle.reader.specs.Reading.{Reading}
 
 -- what was read of one field, before so many others

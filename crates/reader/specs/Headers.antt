@@ -2,9 +2,9 @@
 use Rattle.std.specs.Prelude.{ℕ, ◌+◌, Bool, cond, List, Ok, Err, Result, ◌==◌}
 use Rattle.amqp.specs.declared.header.Header.{Header}
 use Rattle.amqp.specs.declared.header.Header.TheVariants.{Transfer, Disposition}
-use Rattle.codec_forms.specs.declared.error.ReadError.{ReadError}
-use Rattle.codec_forms.specs.declared.error.ReadError.TheVariants.{NotEncoded}
-use Rattle.codec_forms.specs.Headers.{header_bytes}
+use Rattle.codec.specs.declared.error.ReadError.{ReadError}
+use Rattle.codec.specs.declared.error.ReadError.TheVariants.{NotEncoded}
+use Rattle.codec.specs.Headers.{header_bytes}
 use Rattle.reader.specs.Agree.{only}
 use Rattle.reader.specs.Places.{Reader, then, value_place}
 use Rattle.reader.specs.Fields.{must_at, may_at, null_at, flag_at}

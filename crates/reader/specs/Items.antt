@@ -1,21 +1,20 @@
 -- Tags, conditions and states that were written are read back.
-use Rattle.std.specs.Prelude.{◌≡◌, ℕ, ◌+◌, ◌<◌, ◌≤◌, Bool, false, List, length, Some, None, Ok, Option, Result}
+use Rattle.std.specs.Prelude.{◌≡◌, ℕ, ◌+◌, ◌<◌, ◌≤◌, min, Bool, false, List, length, Some, None, Ok, Option, Result}
 use Rattle.std.proofs.Math.Path.{refl}
 use Rattle.std.proofs.Common.{arith, lit≤}
-use Rattle.std.proofs.lemmas.List.{length-append, length-take-le}
+use Rattle.std.proofs.lemmas.List.{length-append, length-take}
 use Rattle.std.proofs.lemmas.Bool.{lt-ltb, le-ltb}
-use Rattle.amqp.specs.Tags.{all_bytes, tag_bytes, Canonical}
+use Rattle.amqp.specs.Tags.{tag_bytes, Canonical}
 use Rattle.amqp.specs.declared.condition.AmqpError.{AmqpError}
 use Rattle.amqp.specs.declared.condition.AmqpError.TheVariants.{InternalError, NotFound, UnauthorizedAccess, DecodeError, ResourceLimitExceeded, NotAllowed, InvalidField, NotImplemented, ResourceLocked, PreconditionFailed, ResourceDeleted, IllegalState, FrameSizeTooSmall}
 use Rattle.amqp.specs.declared.state.Received.{Received as Reached}
 use Rattle.amqp.specs.declared.state.DeliveryState.{DeliveryState}
 use Rattle.amqp.specs.declared.state.DeliveryState.TheVariants.{Received, Accepted, Rejected, Released, Modified}
 use Rattle.amqp.specs.declared.tag.DeliveryTag.{DeliveryTag}
-use Rattle.codec_forms.specs.Amqp.{Val, Vals, nil, cons, count, null, uint, ulong, symbol, list, described}
-use Rattle.codec_forms.specs.Form.{encoded, kept, absent}
-use Rattle.codec_forms.specs.Values.{optional, tag_value, condition_name, error_value, error_fields, received_fields, modified_fields, state_value}
-use Rattle.reader.specs.declared.cursor.Cursor.{Cursor}
-use Rattle.reader.specs.Places.{Reader, Has, then}
+use Rattle.codec.specs.Amqp.{Val, Vals, nil, cons, count, null, uint, ulong, symbol, list, described}
+use Rattle.codec.specs.Form.{encoded, kept, absent}
+use Rattle.codec.specs.Values.{optional, tag_value, condition_name, error_value, error_fields, received_fields, modified_fields, state_value}
+use Rattle.reader.specs.Places.{Cursor, Reader, Has, then}
 use Rattle.reader.specs.Reading.{Reading}
 use Rattle.reader.specs.States.{condition_of, tag_at, name_at, described_at, error_at, received_at, rejected_at, modified_at, plain_at, state_by, state_at}
 use Rattle.reader.specs.Fits.{Within, Any, StateFits}
@@ -53,7 +52,7 @@ module _ (R : Reading) (L : Lawful R) where
     where
       go : (src : List ℕ) (at : ℕ) (x : DeliveryTag) → Canonical x → Has src at (encoded R.form (tag_value x)) → tag_at R src at ≡ Ok (x, at + length (encoded R.form (tag_value x)))
       go src at x v h =
-          let n : length (tag_bytes x) ≤ 32 = omega (arith, length-take-le x.len (all_bytes x) v.short, v.short) in
+          let n : length (tag_bytes x) ≤ 32 = omega (arith, length-take (min x.len 32) x.bytes) in
           let s = L.binaries src at 32 (tag_bytes x) n n h in
           then_step _ s.1 (rw (has_take (tag_bytes x) src s.0 s.2, tag_is x v, s.3))
 

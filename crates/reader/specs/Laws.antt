@@ -1,9 +1,10 @@
 -- What a reading has to keep: what its form writes, it reads back.
 use Rattle.std.specs.Prelude.{◌≡◌, ℕ, ◌+◌, ◌^◌, ◌<◌, ◌≤◌, Bool, false, List, length, Ok, ◌≢◌, slice_index}
-use Rattle.codec_forms.specs.Amqp.{Val, Vals, count, bool, uint, ulong, binary, symbol, list}
-use Rattle.codec_forms.specs.Form.{encoded, kept, absent, concat}
-use Rattle.reader.specs.declared.cursor.Cursor.{Cursor}
-use Rattle.reader.specs.Places.{Reader, Has}
+use Rattle.codec.specs.Amqp.{Val, Vals, count, bool, uint, ulong, binary, symbol, list}
+use Rattle.amqp.specs.declared.header.Header.{Header}
+use Rattle.codec.specs.Form.{Form, encoded, kept, absent, concat}
+use Rattle.codec.specs.Headers.{header_bytes}
+use Rattle.reader.specs.Places.{Cursor, Reader, Has}
 use Rattle.reader.specs.Reading.{Reading}
 use Rattle.reader.specs.Fits.{Any}
 
@@ -38,3 +39,8 @@ pub record Lawful (R : Reading) : Type 0 where
   pub symbols : Span R R.symbol_at symbol
   pub lists : (src : List ℕ) (p least : ℕ) (vs : Vals) → least ≤ length (kept R.form vs) → count vs < 256 → Has src p (encoded R.form (list vs))
       → (c : Cursor) × (R.list_at least (count vs) src p ≡ Ok c) × Left R src (p + length (encoded R.form (list vs))) c vs
+
+-- these are the bytes that the form has for the header, at most 256
+pub record Written (F : Form) (bytes : Header → List ℕ) (h : Header) : Type 0 where
+  pub same : bytes h ≡ header_bytes F h
+  pub short : length (bytes h) ≤ 256

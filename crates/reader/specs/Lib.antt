@@ -1,4 +1,6 @@
 pub mod Places
+pub mod Numbers
+pub mod Inputs
 pub mod Reading
 pub mod Fields
 pub mod Compact

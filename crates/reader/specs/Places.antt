@@ -1,11 +1,16 @@
 -- Reading at a place: what stands there with the place after it, or the place of the fault.
-use Rattle.std.specs.Prelude.{◌≡◌, ℕ, ◌+◌, ◌-◌, ◌*◌, ◌<◌, ◌≤◌, min, cond, List, [], ◌∷◌, length, Ok, Err, Result, ◌==◌, nat_lt, slice_index}
+use Rattle.std.specs.Prelude.{◌≡◌, ℕ, zero, suc, ◌+◌, ◌-◌, ◌*◌, ◌<◌, ◌≤◌, min, cond, List, [], ◌∷◌, length, Ok, Err, Result, ◌==◌, nat_lt, slice_index}
 
 abbrev pub Found : Type 0 → Type 0
 Found A = Result (A × ℕ) ℕ
 
 abbrev pub Reader : Type 0 → Type 0
 Reader A = List ℕ → ℕ → Found A
+
+-- a place among the fields of a list, and how many of them are still to come
+pub record Cursor : Type 0 where
+  pub at : ℕ
+  pub left : ℕ
 
 -- the first fault ends the reading
 abbrev pub then : {A B : Type 0} → Result A ℕ → (A → Result B ℕ) → Result B ℕ
@@ -28,11 +33,10 @@ sized_of src most n p start = cond (nat_lt most n) (Err p) (cond (nat_lt (length
 abbrev pub value_place : ℕ → ℕ → ℕ
 value_place at end = min (at + 1) (end - 1)
 
-abbrev pub number4 : List ℕ → ℕ → ℕ
-number4 src at = slice_index src at * 16777216 + slice_index src (at + 1) * 65536 + slice_index src (at + 2) * 256 + slice_index src (at + 3)
-
-abbrev pub number8 : List ℕ → ℕ → ℕ
-number8 src at = number4 src at * 4294967296 + number4 src (at + 4)
+-- the number of so many bytes, the highest first
+abbrev pub number : ℕ → List ℕ → ℕ → ℕ
+number zero src at = 0
+number (suc n) src at = number n src at * 256 + slice_index src (at + n)
 
 -- src has these bytes at this place
 abbrev pub Has : List ℕ → ℕ → List ℕ → Type 0

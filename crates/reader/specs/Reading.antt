@@ -1,8 +1,7 @@
 -- How a form is read: what differs from form to form.
 use Rattle.std.specs.Prelude.{ℕ, Bool, List, Result}
-use Rattle.codec_forms.specs.Form.{Form}
-use Rattle.reader.specs.declared.cursor.Cursor.{Cursor}
-use Rattle.reader.specs.Places.{Reader}
+use Rattle.codec.specs.Form.{Form}
+use Rattle.reader.specs.Places.{Cursor, Reader}
 
 pub record Reading : Type 0 where
   pub form : Form

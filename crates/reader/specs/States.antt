@@ -1,12 +1,13 @@
 -- Reading tags, conditions and delivery states, in any form.
 use Rattle.std.specs.Prelude.{ℕ, ◌+◌, cond, List, [], ◌∷◌, take, drop, Some, None, Ok, Err, Option, ◌==◌, nat_lt}
+use Rattle.std.specs.List.{find}
+use Rattle.std.specs.Str.{bytes_eq}
 use Rattle.amqp.specs.declared.condition.AmqpError.{AmqpError}
 use Rattle.amqp.specs.declared.condition.AmqpError.TheVariants.{InternalError, NotFound, UnauthorizedAccess, DecodeError, ResourceLimitExceeded, NotAllowed, InvalidField, NotImplemented, ResourceLocked, PreconditionFailed, ResourceDeleted, IllegalState, FrameSizeTooSmall}
 use Rattle.amqp.specs.declared.state.DeliveryState.{DeliveryState}
 use Rattle.amqp.specs.declared.state.DeliveryState.TheVariants.{Received, Accepted, Rejected, Released, Modified}
 use Rattle.amqp.specs.declared.tag.DeliveryTag.{DeliveryTag}
-use Rattle.codec_forms.specs.Values.{condition_name}
-use Rattle.reader.specs.Agree.{same}
+use Rattle.codec.specs.Values.{condition_name}
 use Rattle.reader.specs.Places.{Found, Reader, then, byte_at, value_place}
 use Rattle.reader.specs.Fields.{must_at, may_at, null_at}
 use Rattle.reader.specs.Reading.{Reading}
@@ -17,13 +18,9 @@ conditions =
     InternalError ∷ NotFound ∷ UnauthorizedAccess ∷ DecodeError ∷ ResourceLimitExceeded ∷ NotAllowed ∷ InvalidField ∷ NotImplemented ∷ ResourceLocked
     ∷ PreconditionFailed ∷ ResourceDeleted ∷ IllegalState ∷ FrameSizeTooSmall ∷ []
 
--- the first of these conditions that has this name
-abbrev pub named : List AmqpError → List ℕ → Option AmqpError
-named [] b = None
-named (k ∷ ks) b = cond (same (condition_name k) b) (Some k) (named ks b)
-
+-- the first condition that has this name
 unfoldable pub condition_of : List ℕ → Option AmqpError
-condition_of b = named conditions b
+condition_of b = find (λ k. bytes_eq (condition_name k) b) conditions
 
 abbrev pub known_at : Option AmqpError → ℕ → ℕ → Found AmqpError
 known_at (Some k) at end = Ok (k, end)

@@ -1,23 +1,24 @@
 -- What is read is what was written, and nothing else is read.
-use Rattle.std.specs.Prelude.{◌≡◌, ℕ, suc, ◌+◌, ◌-◌, Bool, true, false, cond, List, [], ◌∷◌, length, take, Ok, Err, Result, ◌==◌}
+use Rattle.std.specs.Prelude.{◌≡◌, ℕ, ◌+◌, Bool, true, false, cond, List, [], length, Ok, Err, Result, ◌==◌}
 use Rattle.std.proofs.Math.Path.{refl}
 use Rattle.std.proofs.Common.{sym, ◌∙◌, arith}
-use Rattle.std.proofs.lemmas.Bool.{eqb-true, eq-eqb, false≢true}
+use Rattle.std.specs.Str.{bytes_eq}
+use Rattle.std.proofs.lemmas.Slice.Eq.{bytes_eq-Decides}
 use Rattle.amqp.specs.declared.header.Transfer.{Transfer as TransferOf}
 use Rattle.amqp.specs.declared.header.Disposition.{Disposition as DispositionOf}
 use Rattle.amqp.specs.declared.header.Header.{Header}
 use Rattle.amqp.specs.declared.header.Header.TheVariants.{Transfer, Disposition}
-use Rattle.codec_forms.specs.declared.error.ReadError.{ReadError}
-use Rattle.codec_forms.specs.Amqp.{Vals, nil, cons, bool, uint, list}
-use Rattle.codec_forms.specs.Form.{encoded}
-use Rattle.codec_forms.specs.Headers.{header_bytes}
-use Rattle.codec_forms.specs.Values.{transfer_fields, disposition_fields}
-use Rattle.reader.specs.Agree.{agree, same, only, past_zeros}
+use Rattle.codec.specs.declared.error.ReadError.{ReadError}
+use Rattle.codec.specs.Amqp.{Vals, nil, cons, bool, uint, list}
+use Rattle.codec.specs.Form.{encoded}
+use Rattle.codec.specs.Headers.{header_bytes}
+use Rattle.codec.specs.Values.{transfer_fields, disposition_fields}
+use Rattle.reader.specs.Agree.{agree, only, past_zeros}
 use Rattle.reader.specs.Places.{Found, Has, then}
 use Rattle.reader.specs.Reading.{Reading}
-use Rattle.reader.specs.Headers.{transfer_at, disposition_at, header_at, place_or_header, refused, read_of}
+use Rattle.reader.specs.Headers.{transfer_at, disposition_at, header_at, refused, read_of}
 use Rattle.reader.specs.Fits.{Fits, TransferFits, DispositionFits}
-use Rattle.reader.specs.Laws.{Lawful}
+use Rattle.reader.specs.Laws.{Lawful, Written}
 use Rattle.reader.specs.Exact.{Exact}
 use Rattle.reader.specs.Having.{has_self}
 use Rattle.reader.specs.Backs.{must_back, may_back, null_back, flag_back, end_of}
@@ -66,30 +67,6 @@ module _ (R : Reading) (L : Lawful R) where
       let d = described_back R L src at 0x15 (disposition_fields R.form.terse x) (omega arith) h in
       rw d.1 (disposition src d.0 _ x v d.3 d.2)
 
-agree_self : (xs : List ℕ) → agree xs xs ≡ length xs
-agree_self [] = refl
-agree_self (x ∷ xs) = rw (eq-eqb x x refl, agree_self xs)
-
-agree_all : (xs ys : List ℕ) → agree xs ys ≡ length xs → length xs ≡ length ys → xs ≡ ys
-agree_all [] [] e l = refl
-agree_all [] (y ∷ ys) e l = absurd (omega arith)
-agree_all (x ∷ xs) [] e l = absurd (omega arith)
-agree_all (x ∷ xs) (y ∷ ys) e l = go (x == y) refl (λ f. agree_all xs ys f (omega arith)) e
-  where
-    go : (b : Bool) → (x == y) ≡ b → (agree xs ys ≡ length xs → xs ≡ ys) → cond b (suc (agree xs ys)) 0 ≡ suc (length xs) → x ∷ xs ≡ y ∷ ys
-    go true q r f = let i = r (omega arith) in let h = eqb-true x y q in cc
-    go false q r f = absurd (omega arith)
-
-pub same_self : (xs : List ℕ) → same xs xs ≡ true
-same_self xs = rw (eq-eqb (length xs) (length xs) refl, agree_self xs, eq-eqb (length xs) (length xs) refl)
-
-same_all : (xs ys : List ℕ) → same xs ys ≡ true → xs ≡ ys
-same_all xs ys e = go (length xs == length ys) refl e
-  where
-    go : (b : Bool) → (length xs == length ys) ≡ b → cond b (agree xs ys == length xs) false ≡ true → xs ≡ ys
-    go true q f = agree_all xs ys (eqb-true (agree xs ys) (length xs) f) (eqb-true (length xs) (length ys) q)
-    go false q f = absurd (false≢true f)
-
 no_ok : {B : Type 0} {e : ReadError} {h : Header} → ◌≡◌ {A = Result Header ReadError} (Err e) (Ok h) → B
 no_ok p = let z : ◌≡◌ {A = ℕ} 0 1 = cc in absurd (omega arith)
 
@@ -97,10 +74,10 @@ one_ok : {h k : Header} → ◌≡◌ {A = Result Header ReadError} (Ok h) (Ok k
 one_ok e = cc
 
 only_ok : (src bytes : List ℕ) (x h : Header) → refused (only src bytes x) ≡ Ok h → (src ≡ bytes) × (x ≡ h)
-only_ok src bytes x h e = go (same src bytes) (agree src bytes == length bytes) refl e
+only_ok src bytes x h e = go (bytes_eq src bytes) (agree src bytes == length bytes) refl e
   where
-    go : (a b : Bool) → same src bytes ≡ a → refused (cond a (Ok x) (cond b (Err (length bytes)) (Err (past_zeros src (agree src bytes))))) ≡ Ok h → (src ≡ bytes) × (x ≡ h)
-    go true b q f = (same_all src bytes q, one_ok f)
+    go : (a b : Bool) → bytes_eq src bytes ≡ a → refused (cond a (Ok x) (cond b (Err (length bytes)) (Err (past_zeros src (agree src bytes))))) ≡ Ok h → (src ≡ bytes) × (x ≡ h)
+    go true b q f = ((bytes_eq-Decides src bytes).0 q, one_ok f)
     go false true q f = no_ok f
     go false false q f = no_ok f
 
@@ -115,11 +92,10 @@ exact R L src = record { only = λ h e. from (header_at R src 0) h e; back = bac
     back h v e =
         let b : List ℕ = header_bytes R.form h in
         let s : Has b 0 b = has_self [] b 0 refl in
-        rw (e, header R L b 0 h v s, same_self b)
+        rw (e, header R L b 0 h v s, (bytes_eq-Decides b b).1 refl)
 
--- what was read, compared with what is written for it
-pub compared : (R : Reading) (src out : List ℕ) (n end : ℕ) (h : Header) (q : Found Header) (r : Result Header ℕ) → q ≡ header_at R src 0 → q ≡ Ok (h, end) → take n out ≡ header_bytes R.form h → r ≡ only src (take (n - 0) out) h → r ≡ place_or_header R src
-compared R src out n end h q r e f g k =
-    let z : n - 0 ≡ n = omega arith in
-    let w : header_at R src 0 ≡ Ok (h, end) = sym e ∙ f in
-    k ∙ rw (z, g, w)
+-- the same for an encoder that writes the bytes of the form
+pub exact_by : (R : Reading) → Lawful R → (E : Header → List ℕ) → ((h : Header) → Written R.form E h) → (src : List ℕ) → Exact E src (read_of R src)
+exact_by R L E w src =
+    let x = exact R L src in
+    record { only = λ h e. x.only h e ∙ sym (w h).same; back = λ h v e. x.back h v (e ∙ (w h).same) }

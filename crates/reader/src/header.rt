@@ -1,33 +1,35 @@
 // Headers as they are read (Part 2, 2.7.5 and 2.7.6).
 ghost use Rattle.std.specs.Prelude.{◌≡◌};
-ghost use Rattle.reader.specs.Headers.{transfer_at, disposition_at, header_at, place_or_header};
+ghost use Rattle.reader.specs.Headers.{transfer_at, disposition_at, header_at, read_of};
+ghost use Rattle.reader.specs.Inputs.{Reads};
 
-use crate::field::{flag, may, must, null};
+use crate::input::Input;
 use crate::parse::Parse;
-use crate::place::value_start;
 use crate::same::only;
 use crate::state::described;
 use amqp::header::{Disposition, Header, Transfer};
 use amqp::state::DeliveryState;
 use amqp::tag::DeliveryTag;
+use codec::error::ReadError;
 
-fn transfer<P: Parse>(src: &[u8], at: usize) -> Result<(Header, usize), usize>
-    ensures { result ≡ transfer_at P.Parse.reading src.now at }
+#[tactic(auto, unfolding(crate::specs::Headers::transfer_at))]
+fn transfer<P: Parse>(input: &mut Input<'_>) -> Result<Header, ReadError>
+    ensures { Reads (transfer_at P.Parse.reading) input.old input.new result }
 {
-    let c = P::list(src, at, 1, 11)?;
-    let (handle, c) = must::<P, u32>(src, c)?;
-    let (delivery_id, c) = may::<P, u32>(src, c)?;
-    let (delivery_tag, c) = may::<P, DeliveryTag>(src, c)?;
-    let (message_format, c) = may::<P, u32>(src, c)?;
-    let (settled, c) = may::<P, bool>(src, c)?;
-    let (more, c) = flag::<P>(src, c)?;
+    P::list(input, 1, 11)?;
+    let handle = input.must::<P, u32>()?;
+    let delivery_id = input.may::<P, u32>()?;
+    let delivery_tag = input.may::<P, DeliveryTag>()?;
+    let message_format = input.may::<P, u32>()?;
+    let settled = input.may::<P, bool>()?;
+    let more = input.flag::<P>()?;
     // The receiver's settle mode.
-    let c = null::<P>(src, c)?;
-    let (state, c) = may::<P, DeliveryState>(src, c)?;
-    let (resume, c) = flag::<P>(src, c)?;
-    let (aborted, c) = flag::<P>(src, c)?;
-    let (batchable, c) = flag::<P>(src, c)?;
-    let header = Transfer {
+    input.null::<P>()?;
+    let state = input.may::<P, DeliveryState>()?;
+    let resume = input.flag::<P>()?;
+    let aborted = input.flag::<P>()?;
+    let batchable = input.flag::<P>()?;
+    Ok(Header::Transfer(Transfer {
         handle,
         delivery_id,
         delivery_tag,
@@ -38,50 +40,51 @@ fn transfer<P: Parse>(src: &[u8], at: usize) -> Result<(Header, usize), usize>
         resume,
         aborted,
         batchable,
-    };
-    Ok((Header::Transfer(header), c.at))
+    }))
 }
 
-fn disposition<P: Parse>(src: &[u8], at: usize) -> Result<(Header, usize), usize>
-    ensures { result ≡ disposition_at P.Parse.reading src.now at }
+#[tactic(auto, unfolding(crate::specs::Headers::disposition_at))]
+fn disposition<P: Parse>(input: &mut Input<'_>) -> Result<Header, ReadError>
+    ensures { Reads (disposition_at P.Parse.reading) input.old input.new result }
 {
-    let role = P::list(src, at, 2, 6)?;
-    let (is_receiver, c) = must::<P, bool>(src, role)?;
+    P::list(input, 2, 6)?;
+    let role = input.at;
+    let is_receiver = input.must::<P, bool>()?;
     if is_receiver {
-        return Err(value_start(role.at, c.at));
+        return Err(input.fault_from(role));
     }
-    let (first, c) = must::<P, u32>(src, c)?;
+    let first = input.must::<P, u32>()?;
     // The last id.
-    let c = null::<P>(src, c)?;
-    let (settled, c) = flag::<P>(src, c)?;
-    let (state, c) = may::<P, DeliveryState>(src, c)?;
-    let (batchable, c) = flag::<P>(src, c)?;
-    let header = Disposition {
+    input.null::<P>()?;
+    let settled = input.flag::<P>()?;
+    let state = input.may::<P, DeliveryState>()?;
+    let batchable = input.flag::<P>()?;
+    Ok(Header::Disposition(Disposition {
         first,
         settled,
         state,
         batchable,
-    };
-    Ok((Header::Disposition(header), c.at))
+    }))
 }
 
-fn header<P: Parse>(src: &[u8], at: usize) -> Result<(Header, usize), usize>
-    ensures { result ≡ header_at P.Parse.reading src.now at }
+#[tactic(auto, unfolding(crate::specs::Headers::header_at))]
+fn header<P: Parse>(input: &mut Input<'_>) -> Result<Header, ReadError>
+    ensures { Reads (header_at P.Parse.reading) input.old input.new result }
 {
-    let (code, list) = described::<P>(src, at)?;
-    match code {
-        0x14 => transfer::<P>(src, list),
-        0x15 => disposition::<P>(src, list),
-        _ => Err(value_start(at + 1, list)),
+    let start = input.at;
+    match described::<P>(input)? {
+        0x14 => transfer::<P>(input),
+        0x15 => disposition::<P>(input),
+        _ => Err(input.fault_from(start + 1)),
     }
 }
 
 // Codes, counts and values first; then what was read is written again, for the sizes and for spare bytes.
-pub(crate) fn whole<P: Parse>(src: &[u8]) -> Result<Header, usize>
-    ensures { result ≡ place_or_header P.Parse.reading src.now }
+pub(crate) fn whole<P: Parse>(form: &P, src: &[u8]) -> Result<Header, ReadError>
+    ensures { result ≡ read_of P.Parse.reading src.now }
 {
-    let (header, _) = header::<P>(src, 0)?;
+    let header = header::<P>(&mut Input::new(src))?;
     let mut bytes = [0; 256];
-    let len = P::write(&header, &mut bytes);
-    only(src, &bytes[0..len], header)
+    let len = form.write(&header, &mut bytes).unwrap();
+    only(src, &bytes[..len], header)
 }

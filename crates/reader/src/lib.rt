@@ -2,11 +2,10 @@
 #![tactic(auto)]
 
 mod compact;
-mod cursor;
 mod field;
 mod header;
+mod input;
 mod parse;
-mod place;
 pub mod reader;
 mod same;
 mod state;

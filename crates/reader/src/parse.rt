@@ -1,45 +1,45 @@
 // How a form is read: what differs from form to form.
-ghost use Rattle.std.specs.Prelude.{◌≡◌, ◌+◌, ◌<◌, ◌≤◌, length, take, IfOk};
-ghost use Rattle.codec_forms.specs.Headers.{header_bytes};
+ghost use Rattle.std.specs.Prelude.{◌≡◌, ◌≤◌, length, IfOk};
+ghost use Rattle.amqp.specs.declared.header.Header.{Header as HeaderModel};
+ghost use Rattle.reader.specs.Inputs.{Reads, Spells, Opens};
 ghost use Rattle.reader.specs.Reading.{Reading};
-ghost use Rattle.reader.specs.Laws.{Lawful};
+ghost use Rattle.reader.specs.Laws.{Lawful, Written};
 
-use crate::cursor::Cursor;
-use amqp::header::Header;
+use crate::input::Input;
+use codec::encoder::Encoder;
+use codec::error::ReadError;
 
-pub(crate) trait Parse {
+pub(crate) trait Parse: Encoder {
     ghost reading: { Reading };
 
     // Whether what may be left out is left out.
     fn terse() -> bool
         ensures { result ≡ reading.form.terse };
 
-    fn uint(src: &[u8], at: usize) -> Result<(u32, usize), usize>
-        ensures { result ≡ reading.uint_at src.now at };
+    // One method for each of AMQP's types: a shared one would take the type as a number.
+    fn uint(input: &mut Input<'_>) -> Result<u32, ReadError>
+        ensures { Reads reading.uint_at input.old input.new result };
 
-    fn ulong(src: &[u8], at: usize) -> Result<(u64, usize), usize>
-        ensures { result ≡ reading.ulong_at src.now at };
+    fn ulong(input: &mut Input<'_>) -> Result<u64, ReadError>
+        ensures { Reads reading.ulong_at input.old input.new result };
 
-    fn boolean(src: &[u8], at: usize) -> Result<(bool, usize), usize>
-        ensures { result ≡ reading.bool_at src.now at };
+    fn boolean(input: &mut Input<'_>) -> Result<bool, ReadError>
+        ensures { Reads reading.bool_at input.old input.new result };
 
-    // How many bytes, at most `most`, and where they begin.
-    fn binary(src: &[u8], at: usize, most: usize) -> Result<(usize, usize), usize>
-        ensures value { result ≡ reading.binary_at most src.now at }
-        ensures within { IfOk result (λ s. (at < s.1) × (s.0 ≤ most) × (s.1 + s.0 ≤ length src.now)) };
+    // At most `most` bytes.
+    fn binary<'a>(input: &mut Input<'a>, most: u64) -> Result<&'a [u8], ReadError>
+        ensures read { Spells (reading.binary_at most) input.old input.new result }
+        ensures few { IfOk result (λ s. length s.now ≤ most) };
 
-    fn symbol(src: &[u8], at: usize, most: usize) -> Result<(usize, usize), usize>
-        ensures value { result ≡ reading.symbol_at most src.now at }
-        ensures within { IfOk result (λ s. (at < s.1) × (s.0 ≤ most) × (s.1 + s.0 ≤ length src.now)) };
+    fn symbol<'a>(input: &mut Input<'a>, most: u64) -> Result<&'a [u8], ReadError>
+        ensures { Spells (reading.symbol_at most) input.old input.new result };
 
-    // Where the fields of a list begin, of which there are `least` to `most`.
-    fn list(src: &[u8], at: usize, least: u8, most: u8) -> Result<Cursor, usize>
-        ensures { result ≡ reading.list_at least most src.now at };
-
-    // Writes the header to the front of `out`, and answers its size.
-    fn write(header: &Header, out: &mut [u8; 256]) -> usize
-        ensures bytes { take result out.new ≡ header_bytes reading.form header.now }
-        ensures within { result ≤ 256 };
+    // Up to the fields of a list, of which there are `least` to `most`.
+    fn list(input: &mut Input<'_>, least: u8, most: u8) -> Result<(), ReadError>
+        ensures { Opens (reading.list_at least most) input.old input.new result };
 
     ghost lawful: { Lawful reading };
+
+    // What the encoder of the form writes is what is read, and never long.
+    ghost writes: { (e : Self) (h : HeaderModel) → Written reading.form (Self.Encoder.bytes e) h };
 }

@@ -1,14 +1,15 @@
 // Delivery states and errors as they are read (Part 3, 3.4; Part 2, 2.8.14).
-ghost use Rattle.std.specs.Prelude.{◌≡◌, ◌<◌, length, OnOk};
+ghost use Rattle.std.specs.Prelude.{◌≡◌};
+ghost use Rattle.reader.specs.Inputs.{Reads};
 ghost use Rattle.reader.specs.States.{condition_of, name_at, described_at, error_list_at, error_at, received_at, rejected_at, modified_at, plain_at, state_by, state_at};
 
-use crate::field::{Item, may, must, null};
+use crate::field::Item;
+use crate::input::Input;
 use crate::parse::Parse;
-use crate::place::{byte, value_start};
-use crate::same::same;
 use amqp::condition::AmqpError;
 use amqp::state::{DeliveryState, Received};
-use codec_forms::name::condition_name;
+use codec::error::ReadError;
+use codec::name::condition_name;
 
 const CONDITIONS: [AmqpError; 13] = [
     AmqpError::InternalError,
@@ -26,128 +27,130 @@ const CONDITIONS: [AmqpError; 13] = [
     AmqpError::FrameSizeTooSmall,
 ];
 
+#[tactic(auto, unfolding(crate::specs::States::condition_of))]
 fn condition_named(name: &[u8]) -> Option<AmqpError>
     ensures { result ≡ condition_of name.now }
 {
-    for condition in CONDITIONS {
-        if same(condition_name(condition), name) {
-            return Some(condition);
-        }
-    }
-    None
+    CONDITIONS
+        .iter()
+        .copied()
+        .find(|condition| condition_name(*condition) == name)
 }
 
-// The code of a described list, and where the list begins.
-pub(crate) fn described<P: Parse>(src: &[u8], at: usize) -> Result<(u64, usize), usize>
-    ensures value { result ≡ described_at P.Parse.reading src.now at }
-    ensures within { OnOk result (at < length src.now) }
+// The code of a described list, which is read up to the list.
+// Codes stay numbers: a rule of the project has them matched by ranges.
+#[tactic(auto, unfolding(crate::specs::States::described_at))]
+pub(crate) fn described<P: Parse>(input: &mut Input<'_>) -> Result<u64, ReadError>
+    ensures { Reads (described_at P.Parse.reading) input.old input.new result }
 {
-    let p = byte(src, at, 0x00)?;
-    P::ulong(src, p)
+    input.byte(0x00)?;
+    P::ulong(input)
 }
 
-fn name_at<P: Parse>(src: &[u8], at: usize) -> Result<(AmqpError, usize), usize>
-    ensures { result ≡ name_at P.Parse.reading src.now at }
+fn name<P: Parse>(input: &mut Input<'_>) -> Result<AmqpError, ReadError>
+    ensures { Reads (name_at P.Parse.reading) input.old input.new result }
 {
-    let (n, start) = P::symbol(src, at, 28)?;
-    let end = start + n;
-    match condition_named(&src[start..end]) {
-        Some(condition) => Ok((condition, end)),
-        None => Err(at + 1),
-    }
-}
-
-// Condition, description and info.
-fn error_list<P: Parse>(src: &[u8], at: usize) -> Result<(AmqpError, usize), usize>
-    ensures { result ≡ error_list_at P.Parse.reading src.now at }
-{
-    let c = P::list(src, at, 1, 3)?;
-    let (condition, next) = name_at::<P>(src, c.at)?;
-    let c = null::<P>(src, c.next(next))?;
-    let c = null::<P>(src, c)?;
-    Ok((condition, c.at))
+    let start = input.at;
+    let name = P::symbol(input, 28)?;
+    condition_named(name).ok_or(ReadError::NotEncoded { at: start + 1 })
 }
 
 impl Item for AmqpError {
     ghost reader = { error_at };
 
-    fn read_at<P: Parse>(src: &[u8], at: usize) -> Result<(AmqpError, usize), usize> {
-        let (code, list) = described::<P>(src, at)?;
-        match code {
-            0x1d => error_list::<P>(src, list),
-            _ => Err(value_start(at + 1, list)),
+    #[tactic(auto, unfolding(crate::specs::States::error_at))]
+    fn read<P: Parse>(input: &mut Input<'_>) -> Result<AmqpError, ReadError> {
+        let start = input.at;
+        match described::<P>(input)? {
+            0x1d => error_list::<P>(input),
+            _ => Err(input.fault_from(start + 1)),
         }
     }
 }
 
-fn received<P: Parse>(src: &[u8], at: usize) -> Result<(DeliveryState, usize), usize>
-    ensures { result ≡ received_at P.Parse.reading src.now at }
+// Condition, description and info.
+#[tactic(auto, unfolding(crate::specs::Fields::must_at))]
+fn error_list<P: Parse>(input: &mut Input<'_>) -> Result<AmqpError, ReadError>
+    ensures { Reads (error_list_at P.Parse.reading) input.old input.new result }
 {
-    let c = P::list(src, at, 2, 2)?;
-    let (section_number, c) = must::<P, u32>(src, c)?;
-    let (section_offset, c) = must::<P, u64>(src, c)?;
-    let reached = Received {
+    P::list(input, 1, 3)?;
+    // Counted here, since the item of a condition is the whole error and not its name.
+    let left = input.left.saturating_sub(1);
+    let condition = name::<P>(input)?;
+    input.left = left;
+    input.null::<P>()?;
+    input.null::<P>()?;
+    Ok(condition)
+}
+
+#[tactic(auto, unfolding(crate::specs::States::received_at))]
+fn received<P: Parse>(input: &mut Input<'_>) -> Result<DeliveryState, ReadError>
+    ensures { Reads (received_at P.Parse.reading) input.old input.new result }
+{
+    P::list(input, 2, 2)?;
+    let section_number = input.must::<P, u32>()?;
+    let section_offset = input.must::<P, u64>()?;
+    Ok(DeliveryState::Received(Received {
         section_number,
         section_offset,
-    };
-    Ok((DeliveryState::Received(reached), c.at))
+    }))
 }
 
-fn rejected<P: Parse>(src: &[u8], at: usize) -> Result<(DeliveryState, usize), usize>
-    ensures { result ≡ rejected_at P.Parse.reading src.now at }
+#[tactic(auto, unfolding(crate::specs::States::rejected_at))]
+fn rejected<P: Parse>(input: &mut Input<'_>) -> Result<DeliveryState, ReadError>
+    ensures { Reads (rejected_at P.Parse.reading) input.old input.new result }
 {
-    let c = P::list(src, at, 0, 1)?;
-    let (error, c) = may::<P, AmqpError>(src, c)?;
-    Ok((DeliveryState::Rejected(error), c.at))
+    P::list(input, 0, 1)?;
+    let error = input.may::<P, AmqpError>()?;
+    Ok(DeliveryState::Rejected(error))
 }
 
-fn modified<P: Parse>(src: &[u8], at: usize) -> Result<(DeliveryState, usize), usize>
-    ensures { result ≡ modified_at P.Parse.reading src.now at }
+#[tactic(auto, unfolding(crate::specs::States::modified_at))]
+fn modified<P: Parse>(input: &mut Input<'_>) -> Result<DeliveryState, ReadError>
+    ensures { Reads (modified_at P.Parse.reading) input.old input.new result }
 {
-    let c = P::list(src, at, 0, 3)?;
-    let (delivery_failed, c) = may::<P, bool>(src, c)?;
-    let (undeliverable_here, c) = may::<P, bool>(src, c)?;
-    let c = null::<P>(src, c)?;
-    let state = DeliveryState::Modified {
+    P::list(input, 0, 3)?;
+    let delivery_failed = input.may::<P, bool>()?;
+    let undeliverable_here = input.may::<P, bool>()?;
+    input.null::<P>()?;
+    Ok(DeliveryState::Modified {
         delivery_failed,
         undeliverable_here,
-    };
-    Ok((state, c.at))
+    })
 }
 
 // A state with no fields.
-fn plain<P: Parse>(
-    src: &[u8],
-    at: usize,
-    state: DeliveryState,
-) -> Result<(DeliveryState, usize), usize>
-    ensures { result ≡ plain_at P.Parse.reading state src.now at }
+#[tactic(auto, unfolding(crate::specs::States::plain_at))]
+fn plain<P: Parse>(input: &mut Input<'_>, state: DeliveryState) -> Result<DeliveryState, ReadError>
+    ensures { Reads (plain_at P.Parse.reading state) input.old input.new result }
 {
-    let c = P::list(src, at, 0, 0)?;
-    Ok((state, c.at))
+    P::list(input, 0, 0)?;
+    Ok(state)
 }
 
 // The state of a code from 0x23 to 0x27.
-fn state_by<P: Parse>(src: &[u8], at: usize, code: u64) -> Result<(DeliveryState, usize), usize>
-    ensures { result ≡ state_by P.Parse.reading code src.now at }
+fn state_by<P: Parse>(input: &mut Input<'_>, code: u64) -> Result<DeliveryState, ReadError>
+    ensures { Reads (state_by P.Parse.reading code) input.old input.new result }
 {
     match code {
-        0x23 => received::<P>(src, at),
-        0x24 => plain::<P>(src, at, DeliveryState::Accepted),
-        0x25 => rejected::<P>(src, at),
-        0x26 => plain::<P>(src, at, DeliveryState::Released),
-        _ => modified::<P>(src, at),
+        0x23 => received::<P>(input),
+        0x24 => plain::<P>(input, DeliveryState::Accepted),
+        0x25 => rejected::<P>(input),
+        0x26 => plain::<P>(input, DeliveryState::Released),
+        _ => modified::<P>(input),
     }
 }
 
 impl Item for DeliveryState {
     ghost reader = { state_at };
 
-    fn read_at<P: Parse>(src: &[u8], at: usize) -> Result<(DeliveryState, usize), usize> {
-        let (code, list) = described::<P>(src, at)?;
+    #[tactic(auto, unfolding(crate::specs::States::state_at))]
+    fn read<P: Parse>(input: &mut Input<'_>) -> Result<DeliveryState, ReadError> {
+        let start = input.at;
+        let code = described::<P>(input)?;
         match code {
-            0x23..=0x27 => state_by::<P>(src, list, code),
-            _ => Err(value_start(at + 1, list)),
+            0x23..=0x27 => state_by::<P>(input, code),
+            _ => Err(input.fault_from(start + 1)),
         }
     }
 }

@@ -4,25 +4,22 @@ ghost use Rattle.reader.specs.Tags.{tag_from};
 ghost use Rattle.reader.specs.States.{tag_at};
 
 use crate::field::Item;
+use crate::input::Input;
 use crate::parse::Parse;
 use amqp::tag::DeliveryTag;
+use codec::error::ReadError;
 
 fn of_bytes(bytes: &[u8]) -> DeliveryTag
     requires { length bytes.now ≤ 32 }
     ensures { result ≡ tag_from bytes.now }
 {
-    match DeliveryTag::from_slice(bytes) {
-        Some(tag) => tag,
-        None => DeliveryTag::from_count(0),
-    }
+    DeliveryTag::from_slice(bytes).unwrap()
 }
 
 impl Item for DeliveryTag {
     ghost reader = { tag_at };
 
-    fn read_at<P: Parse>(src: &[u8], at: usize) -> Result<(DeliveryTag, usize), usize> {
-        let (n, start) = P::binary(src, at, 32)?;
-        let end = start + n;
-        Ok((of_bytes(&src[start..end]), end))
+    fn read<P: Parse>(input: &mut Input<'_>) -> Result<DeliveryTag, ReadError> {
+        Ok(of_bytes(P::binary(input, 32)?))
     }
 }

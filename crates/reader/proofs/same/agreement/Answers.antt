@@ -1,14 +1,16 @@
-use Rattle.reader.proofs.Agrees.{over_left, over_right, differs, goes_on}
+use Rattle.std.proofs.Common.{◌∙◌, rules, tests}
+use Rattle.std.specs.List.{zip}
+use Rattle.std.proofs.lemmas.Iterator.{YieldsList-from_slice, YieldsList-from_zip}
+use Rattle.std.proofs.lemmas.Iterator.Consumers.{count_from_yields_List}
+use Rattle.std.proofs.lemmas.Iterator.Search.{YieldsList-from_take_while}
+use Rattle.std.proofs.lemmas.List.Folds.{length-prefix_len}
+use Rattle.reader.proofs.Agrees.{alike, agree-zip}
 use Rattle.reader.proofs.same.agreement.Goals as goal
 
-pub loop-i-preserved : goal.loop-i-preserved
-loop-i-preserved c = goes_on c.args.a.now c.args.b.now c.loop-i.i _ c.loop-i.invariant c.loop-i-test.true c.if-i-b.true c.if-a-i.true
-
-pub returns-else-a-i : goal.returns-else-a-i
-returns-else-a-i c = differs c.args.a.now c.args.b.now c.loop-i.i _ c.loop-i.invariant c.loop-i-test.true c.if-i-b.true c.if-a-i.false
-
-pub returns-else-i-b : goal.returns-else-i-b
-returns-else-i-b c = over_right c.args.a.now c.args.b.now c.loop-i.i _ c.loop-i.invariant c.if-i-b.false
-
-pub returns-after-loop-i : goal.returns-after-loop-i
-returns-after-loop-i c = over_left c.args.a.now c.args.b.now c.loop-i.i _ c.loop-i.invariant c.loop-i-test.false
+pub returns-clause-value : goal.returns-clause-value
+returns-clause-value c =
+    let a = c.args.a.now in
+    let b = c.args.b.now in
+    count_from_yields_List c.take_while.result c.count.result c.count.ensures.ran
+    (YieldsList-from_take_while _ alike (YieldsList-from_zip (YieldsList-from_slice a cc) (YieldsList-from_slice b cc)) c.take_while.ensures.closure c.take_while.ensures.done (λ x r q k. search (rules, tests)))
+    ∙ length-prefix_len alike (zip a b) ∙ agree-zip a b

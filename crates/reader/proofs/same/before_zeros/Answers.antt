@@ -1,11 +1,16 @@
-use Rattle.std.proofs.Common.{sym, ◌∙◌, arith}
-use Rattle.reader.proofs.Agrees.{zero_passed, no_zero}
+use Rattle.std.proofs.Common.{◌≡◌, take, reverse, rules, tests, ◌∙◌, arith}
+use Rattle.std.specs.List.{suffix_len}
+use Rattle.std.proofs.lemmas.Iterator.Adapters.{YieldsList-from_rev_slice}
+use Rattle.std.proofs.lemmas.Iterator.Consumers.{count_from_yields_List}
+use Rattle.std.proofs.lemmas.Iterator.Search.{YieldsList-from_take_while}
+use Rattle.std.proofs.lemmas.List.Folds.{length-prefix_len}
+use Rattle.reader.proofs.Agrees.{is_zero, zeros}
 use Rattle.reader.proofs.same.before_zeros.Goals as goal
 
-pub loop-at-preserved : goal.loop-at-preserved
-loop-at-preserved c =
-    (sym (zero_passed c.args.src.now c.loop-at.at c.loop-at-test.true c.if-src-at-eq0.true) ∙ c.loop-at.invariant.0, omega arith)
-
-pub returns-else-src-at-eq0 : goal.returns-else-src-at-eq0
-returns-else-src-at-eq0 c =
-    sym (no_zero c.args.src.now c.loop-at.at c.loop-at-test.true c.if-src-at-eq0.false) ∙ c.loop-at.invariant.0
+pub returns : goal.returns
+returns c =
+    let front = take c.args.at c.args.src.now in
+    let n : c.count-zeros.result ≡ suffix_len is_zero front =
+    count_from_yields_List c.take_while.result c.count-zeros.result c.count-zeros.ensures.ran (YieldsList-from_take_while _ is_zero (YieldsList-from_rev_slice front cc) c.take_while.ensures.closure c.take_while.ensures.done (λ x r q k. search (rules, tests)))
+    ∙ length-prefix_len is_zero (reverse front) in
+    omega (arith, zeros c.args.src.now c.args.at c.requires)

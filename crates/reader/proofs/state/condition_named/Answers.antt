@@ -1,22 +1,17 @@
-use Rattle.std.proofs.Common.{refl}
+use Rattle.std.proofs.Common.{sym, ◌∙◌, rules, tests}
+use Rattle.std.specs.Str.{bytes_eq}
+use Rattle.std.proofs.lemmas.Iterator.{YieldsList-from_slice}
+use Rattle.std.proofs.lemmas.Iterator.Adapters.{option_map_id}
+use Rattle.std.proofs.lemmas.Iterator.Consumers.{YieldsList-from_copied, YieldsList-at}
+use Rattle.std.proofs.lemmas.Iterator.Search.{find_from_yields_List}
+use Rattle.codec.specs.Values.{condition_name}
 use Rattle.reader.specs.States.{conditions, condition_of}
-use Rattle.reader.proofs.Names.{found, passed, unknown}
 use Rattle.reader.proofs.state.condition_named.Goals as goal
-
-pub loop-condition-init : goal.loop-condition-init
-loop-condition-init c = refl
-
-pub returns-then-same : goal.returns-then-same
-unfolding condition_of
-returns-then-same c =
-    found conditions c.loop-condition.condition-index c.args.name.now _ c.loop-condition.invariant _ _ c.loop-condition-test.true
-    c.condition_name.ensures.value c.if-same.ensures
-
-pub loop-condition-preserved : goal.loop-condition-preserved
-loop-condition-preserved c =
-    passed conditions c.loop-condition.condition-index c.args.name.now _ c.loop-condition.invariant _ _ c.loop-condition-test.true
-    c.condition_name.ensures.value c.if-same.ensures
 
 pub returns : goal.returns
 unfolding condition_of
-returns c = unknown conditions c.loop-condition.condition-index c.args.name.now _ c.loop-condition.invariant c.loop-condition-test.false
+returns c =
+    sym (option_map_id c.find.result)
+    ∙ find_from_yields_List (λ k. bytes_eq (condition_name k) c.args.name.now) _ _ _ c.find.ensures.ran
+    (YieldsList-from_copied (YieldsList-at c.copied.ensures.source (YieldsList-from_slice conditions c.iter.ensures.rest)))
+    (λ x b q k. search (rules, tests))

@@ -1,5 +1,7 @@
 use Rattle.reader.specs.Canons.{tag_of_bytes}
 use Rattle.reader.proofs.tag.of_bytes.Goals as goal
 
-pub returns-in-Some : goal.returns-in-Some
-returns-in-Some c = tag_of_bytes c.in-Some.tag c.args.bytes.now c.in-Some.ensures.0 c.in-Some.ensures.1
+pub returns : goal.returns
+returns c =
+    let made = rw c.unwrap.ensures at c.from_slice.ensures in
+    tag_of_bytes c.unwrap.result c.args.bytes.now made.0 made.1
