@@ -1,4 +1,4 @@
-// What a call refuses. Each refusal has a number, by which the rules and the programs name it.
+// What a call refuses. Each refusal has a number, by which docs/RULES.md and the programs name it.
 ghost use Rattle.std.specs.Prelude.{◌≡◌};
 ghost use Rattle.amqp.specs.Refusals.{make_number, state_number, sink_number, send_number, attach_number, ticket_number, memory_number, of_sink};
 
@@ -8,7 +8,7 @@ use crate::stop::SessionStopReason;
 #[derive(Clone, Copy, PartialEq, Eq)]
 pub enum MakeError {
     // A size is outside its bounds.
-    Sizes,
+    Sizes = 1,
 }
 
 // The state of a link, or of what carries its frames.
@@ -49,7 +49,7 @@ pub enum SendError {
 // The peer's attach.
 #[derive(Clone, Copy, PartialEq, Eq)]
 pub enum SenderAttachError {
-    IllegalState,
+    IllegalState = 2,
     IncomingTargetIsNone,
     SndSettleModeNotSupported,
     // In the peer's map of unsettled deliveries a tag stands twice, or is too long.
@@ -63,22 +63,20 @@ pub enum SenderAttachError {
 #[derive(Clone, Copy, PartialEq, Eq)]
 pub enum TicketError {
     // No seat has its number.
-    NoSeat,
+    NoSeat = 19,
 }
 
 // Memory handed in for an answer.
 #[derive(Clone, Copy, PartialEq, Eq)]
 pub enum MemoryError {
-    TooShort,
+    TooShort = 20,
 }
 
 impl MakeError {
     pub fn number(self) -> u8
         ensures { result ≡ make_number self }
     {
-        match self {
-            MakeError::Sizes => 1,
-        }
+        self as u8
     }
 }
 
@@ -129,14 +127,7 @@ impl SenderAttachError {
     pub fn number(self) -> u8
         ensures { result ≡ attach_number self }
     {
-        match self {
-            SenderAttachError::IllegalState => 2,
-            SenderAttachError::IncomingTargetIsNone => 3,
-            SenderAttachError::SndSettleModeNotSupported => 4,
-            SenderAttachError::IllegalTag => 5,
-            SenderAttachError::TooManyUnsettled => 6,
-            SenderAttachError::OutsidePool => 7,
-        }
+        self as u8
     }
 }
 
@@ -144,9 +135,7 @@ impl TicketError {
     pub fn number(self) -> u8
         ensures { result ≡ ticket_number self }
     {
-        match self {
-            TicketError::NoSeat => 19,
-        }
+        self as u8
     }
 }
 
@@ -154,9 +143,7 @@ impl MemoryError {
     pub fn number(self) -> u8
         ensures { result ≡ memory_number self }
     {
-        match self {
-            MemoryError::TooShort => 20,
-        }
+        self as u8
     }
 }
 

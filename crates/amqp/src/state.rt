@@ -57,16 +57,14 @@ impl fmt::Display for DeliveryState {
 
     fn fmt<W: fmt::Write>(&self, f: &mut fmt::Formatter<W>) -> fmt::Result {
         match *self {
-            DeliveryState::Received(place) => {
-                let section = place.section_number;
-                let offset = place.section_offset;
-                write!(f, "received({section},{offset})")
-            }
+            DeliveryState::Received(
+                Received {
+                    section_number,
+                    section_offset,
+                },
+            ) => write!(f, "received({section_number},{section_offset})"),
             DeliveryState::Accepted => f.write_str("accepted"),
-            DeliveryState::Rejected(condition) => {
-                let number = number_of(condition);
-                write!(f, "rejected({number})")
-            }
+            DeliveryState::Rejected(condition) => write!(f, "rejected({})", number_of(condition)),
             DeliveryState::Released => f.write_str("released"),
             DeliveryState::Modified {
                 delivery_failed,

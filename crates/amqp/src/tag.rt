@@ -2,7 +2,8 @@
 ghost use Rattle.std.specs.Prelude.{◌≡◌, ◌+◌, ◌≤◌, length, MatchOption};
 ghost use Rattle.amqp.specs.Tags.{tag_bytes, tag_of, Canonical, SameBytesSameTag};
 
-// Zeros stand past its bytes, so that tags of the same bytes are equal.
+// Zeros stand past its bytes, so that tags of the same bytes are equal. It is copied by value and takes no heap, as a link
+// does, and a vector of fixed capacity is not `Copy`: so the length stands beside the bytes.
 #[derive(Clone, Copy, PartialEq, Eq, Default)]
 pub struct DeliveryTag {
     len: u8,

@@ -10,3 +10,4 @@ pub mod Attaching
 pub mod Sending
 pub mod Disposing
 pub mod Calls
+pub mod Texts

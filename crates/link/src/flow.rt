@@ -55,11 +55,7 @@ impl LinkFlowState {
             self.delivery_count = self.delivery_count.wrapping_add(self.link_credit);
             self.link_credit = 0;
         }
-        if flow.drain || flow.echo {
-            Some(self.as_link_flow(handle, flow.drain))
-        } else {
-            None
-        }
+        (flow.drain || flow.echo).then(|| self.as_link_flow(handle, flow.drain))
     }
 
     // Our own flow, which asks for no answer.

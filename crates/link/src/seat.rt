@@ -15,7 +15,7 @@ pub enum Seat {
     Ended(u32, Outcome),
 }
 
-// The seats of a link, searched in order in lent memory.
+// The seats of a link, searched in order in lent memory. With a model of them `look` and `vacate` did not prove.
 #[derive(Drop)]
 pub struct Seats<'a> {
     seats: &'a mut [Seat],
@@ -32,10 +32,7 @@ impl Seat {
     fn is_of(&self, number: u32) -> bool
         ensures { result ≡ sits number self.now }
     {
-        match self {
-            Seat::Free => false,
-            Seat::Pending(n) | Seat::Ended(n, _) => *n == number,
-        }
+        matches!(self, Seat::Pending(n) | Seat::Ended(n, _) if *n == number)
     }
 
     // How its delivery ended, if it has.

@@ -11,7 +11,8 @@ pub mod reading;
 mod ring;
 
 // Places in a ring, each with `widest` bytes for its payload. `used` of them hold a frame, the oldest at `head`.
-// Its memory is handed in and comes back, so the ring goes round in that memory: a `VecDeque` would allocate its own.
+// Its memory is handed in and comes back, so the ring goes round in that memory: a `VecDeque` would allocate its own. It has no
+// model, since making and giving back speak of that memory: with one no clause could name it.
 #[derive(Drop)]
 pub struct Queue {
     places: Vec<Place>,

@@ -3,6 +3,7 @@ use amqp::header::{FrameKind, Header};
 
 #[derive(Clone, Copy)]
 pub struct Frame<'a> {
+    // Who reads frames goes by it, and need not look into the header.
     pub kind: FrameKind,
     // The handle that the peer gave the link, or 0 for a disposition.
     pub handle: u32,

@@ -5,7 +5,8 @@ ghost use Rattle.std.specs.List.{slice_get};
 use crate::slot::{MapError, Slot};
 use amqp::tag::DeliveryTag;
 
-// It holds the first `len` slots. They are searched in order, in memory that is lent: a link takes no heap.
+// It holds the first `len` slots. They are searched in order, in memory that is lent: a link takes no heap. It has no model:
+// clauses would say `.items` and `.room` where they say `held` and `room`. That a call keeps the room is a fact of two tables.
 #[derive(Drop)]
 pub struct UnsettledMap<'a, M> {
     slots: &'a mut [Slot<M>],
@@ -35,7 +36,7 @@ impl<'a, M: Copy> UnsettledMap<'a, M> {
         ensures value { result ≡ length (held self.now) }
         ensures within { result ≤ room self.now }
     {
-        self.len
+        self.front().len()
     }
 
     pub fn capacity(&self) -> usize
@@ -47,7 +48,7 @@ impl<'a, M: Copy> UnsettledMap<'a, M> {
     pub fn is_full(&self) -> bool
         ensures { result ≡ full self.now }
     {
-        self.len >= self.slots.len()
+        self.count() >= self.capacity()
     }
 
     pub fn at(&self, i: usize) -> Option<Slot<M>>

@@ -34,5 +34,6 @@ pub fn has_illegal_tag(pairs: &[PeerDelivery<'_>]) -> bool
     ensures value { result ≡ illegal_tags pairs.now }
     ensures legal { Decides (not result) (LegalTags pairs.now) }
 {
+    // By place, since each tag is compared with those before it.
     (0..pairs.len()).any(|i| is_illegal(pairs, i))
 }

@@ -1,7 +1,8 @@
 // A list that is worked off from its start, in lent memory.
 ghost use Rattle.std.specs.Prelude.{◌≡◌, ◌+◌, ◌≤◌, [], length, ◌==◌};
 
-// It holds `len` places from `start`, which moves on as the list is worked off; in a table of deliveries nothing does.
+// It holds `len` places from `start`. Its methods are those of a table, but a table begins where its memory does: a list that
+// is worked off does not. It has no model for the reason that the table has none.
 #[derive(Drop)]
 pub struct Worklist<'a, X> {
     slots: &'a mut [X],
@@ -36,7 +37,7 @@ impl<'a, X: Copy> Worklist<'a, X> {
         ensures value { result ≡ length (items self.now) }
         ensures within { result ≤ space self.now }
     {
-        self.len
+        self.front().len()
     }
 
     pub fn capacity(&self) -> usize
@@ -48,6 +49,6 @@ impl<'a, X: Copy> Worklist<'a, X> {
     pub fn is_empty(&self) -> bool
         ensures { result ≡ (length (items self.now) == 0) }
     {
-        self.len == 0
+        self.front().is_empty()
     }
 }

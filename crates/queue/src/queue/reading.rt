@@ -10,12 +10,12 @@ use amqp::error::MemoryError;
 impl Queue {
     // Takes the oldest frame, if one waits: its payload goes to the front of `out`, and the place that held it is free
     // again. Where `out` is shorter than the payload, the frame stays.
-    // A frame that borrows `out` did not prove: no clause then says what stands in `out` past its payload.
     pub fn take(&mut self, out: &mut [u8]) -> Result<Option<Place>, MemoryError>
         ensures answer { result ≡ taken (model_of self.old).waiting (length out.old) }
         ensures after { model_of self.new ≡ left (model_of self.old) (length out.old) }
         ensures read { out.new ≡ read_into (model_of self.old).waiting out.old }
     {
+        // No frame that borrows `out` is answered: no clause could then say what stands past its payload.
         if self.used == 0 {
             return Ok(None);
         }

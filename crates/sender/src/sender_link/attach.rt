@@ -21,12 +21,10 @@ impl<'a> SenderLink<'a> {
     fn may_attach(&self, attach: &Attach<'_>, pool: &[u8]) -> Result<LinkState, SenderAttachError>
         ensures { result ≡ gated (attach_refusal self.now attach.now pool.now) (attached_state self.now attach.now) }
     {
-        let Some(state) = self
+        let state = self
             .local_state
             .on_incoming_attach(attach.incomplete_unsettled)
-        else {
-            return Err(SenderAttachError::IllegalState);
-        };
+            .ok_or(SenderAttachError::IllegalState)?;
         if has_illegal_tag(attach.unsettled) {
             return Err(SenderAttachError::IllegalTag);
         }

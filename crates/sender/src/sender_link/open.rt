@@ -19,9 +19,10 @@ impl<'a> SenderLink<'a> {
         ensures link { self.new ≡ step self.old (Open handle incomplete_unsettled) }
         ensures no_delivery_lost_or_ended_twice { SafeAfter self.old (Open handle incomplete_unsettled) self.new }
     {
-        let Some(state) = self.local_state.on_open(incomplete_unsettled) else {
-            return Err(LinkStateError::IllegalState);
-        };
+        let state = self
+            .local_state
+            .on_open(incomplete_unsettled)
+            .ok_or(LinkStateError::IllegalState)?;
         self.local_state = state;
         self.output_handle = Some(handle);
         Ok(state)
