@@ -1,5 +1,6 @@
 pub mod Places
 pub mod Numbers
+pub mod Widths
 pub mod Inputs
 pub mod Reading
 pub mod Fields

@@ -84,6 +84,7 @@ pub(crate) fn whole<P: Parse>(form: &P, src: &[u8]) -> Result<Header, ReadError>
     ensures { result ≡ read_of P.Parse.reading src.now }
 {
     let header = header::<P>(&mut Input::new(src))?;
+    // An encoder writes into memory that is lent to it.
     let mut bytes = [0; 256];
     let len = form.write(&header, &mut bytes).unwrap();
     only(src, &bytes[..len], header)
