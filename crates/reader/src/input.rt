@@ -93,8 +93,8 @@ impl<'a> Input<'a> {
         ensures fits { IfOk result (λ x. x < 256 ^ width_of width) }
     {
         let mut x = 0;
-        for _ in 0..width.bytes() {
-            x = x * 256 + u64::from(self.next()?);
+        for byte in self.take(width.bytes())? {
+            x = x * 256 + u64::from(*byte);
         }
         Ok(x)
     }

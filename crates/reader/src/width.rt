@@ -1,5 +1,5 @@
 // How many bytes a number takes.
-ghost use Rattle.std.specs.Prelude.{◌≡◌, ◌<◌, ◌≤◌};
+ghost use Rattle.std.specs.Prelude.{◌≡◌, ◌≤◌};
 ghost use Rattle.reader.specs.Widths.{width_of};
 
 #[derive(Clone, Copy)]
@@ -12,7 +12,6 @@ pub(crate) enum Width {
 impl Width {
     pub(crate) fn bytes(self) -> usize
         ensures value { result ≡ width_of self }
-        ensures some { 0 < result }
         ensures most { result ≤ 8 }
     {
         self as usize
