@@ -1,4 +1,5 @@
 pub mod Places
+pub mod Ranges
 pub mod Numbers
 pub mod Widths
 pub mod Inputs

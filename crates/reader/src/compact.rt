@@ -12,6 +12,7 @@ use crate::width::Width;
 use codec::codes::{Codes, UINT, ULONG};
 use codec::compact::Compact;
 use codec::error::ReadError;
+use std::ops::RangeInclusive;
 
 // A number by its codes; all of its bytes are `width`.
 fn number(input: &mut Input<'_>, codes: Codes, width: Width) -> Result<u64, ReadError>
@@ -63,13 +64,14 @@ impl Parse for Compact {
         input.sized(0xa3, Width::One, most)
     }
 
-    fn list(input: &mut Input<'_>, least: u8, most: u8) -> Result<(), ReadError> {
+    fn list(input: &mut Input<'_>, fields: RangeInclusive<u8>) -> Result<(), ReadError> {
+        let (least, most) = fields.into_inner();
         if input.peek()? == 0x45 {
             return input.empty(least);
         }
         input.byte(0xc0)?;
         // The size.
         input.take(1)?;
-        input.count(Width::One, least.max(1), most)
+        input.count(Width::One, least.max(1)..=most)
     }
 }

@@ -3,6 +3,7 @@ ghost use Rattle.std.specs.Prelude.{◌≡◌, ◌≤◌, length};
 
 use crate::width::Width;
 use codec::error::ReadError;
+use std::ops::RangeInclusive;
 
 #[derive(Drop)]
 pub(crate) struct Input<'a> {
@@ -18,6 +19,8 @@ impl<'a> Input<'a> {
     ghost use Rattle.codec.specs.declared.error.ReadError.TheVariants.{NotEncoded};
     ghost use Rattle.reader.specs.Places.{value_place, byte_at};
     ghost use Rattle.reader.specs.Numbers.{peek_at, next_at, taken_at, whole_at, from_at, sized_at, count_of, none_of};
+    ghost use Rattle.std.specs.Range.{range_inclusive_start, range_inclusive_end};
+    ghost use Rattle.reader.specs.Ranges.{IsFresh};
     ghost use Rattle.reader.specs.Widths.{width_of};
     ghost use Rattle.reader.specs.Inputs.{outcome, Tells, Reads, Spells, Opens};
 
@@ -124,18 +127,23 @@ impl<'a> Input<'a> {
         }
     }
 
-    // The number of the fields of a list, as wide as `width` says: the fields begin here.
-    pub(crate) fn count(&mut self, width: Width, least: u8, most: u8) -> Result<(), ReadError>
-        ensures { Opens (count_of (width_of width) least most) self.old self.new result }
+    // The number of the fields of a list, as wide as `width` says, and one of `fields`: they begin here.
+    pub(crate) fn count(
+        &mut self,
+        width: Width,
+        fields: RangeInclusive<u8>,
+    ) -> Result<(), ReadError>
+        requires { IsFresh fields }
+        ensures { Opens (count_of (width_of width) (range_inclusive_start fields) (range_inclusive_end fields)) self.old self.new result }
     {
         let fault = self.fault();
         // Counts are matched with guards (docs/DECISIONS.md, Forms).
-        match self.number(width)? {
-            n if n < u64::from(least) || n > u64::from(most) => Err(fault),
-            n => {
-                self.left = n as u8;
+        match u8::try_from(self.number(width)?) {
+            Ok(count) if fields.contains(&count) => {
+                self.left = count;
                 Ok(())
             }
+            _ => Err(fault),
         }
     }
 

@@ -72,7 +72,7 @@ impl Item for AmqpError {
 fn error_list<P: Parse>(input: &mut Input<'_>) -> Result<AmqpError, ReadError>
     ensures { Reads (error_list_at P.Parse.reading) input.old input.new result }
 {
-    P::list(input, 1, 3)?;
+    P::list(input, 1..=3)?;
     // Counted here, since the item of a condition is the whole error and not its name.
     let left = input.left.saturating_sub(1);
     let condition = name::<P>(input)?;
@@ -86,7 +86,7 @@ fn error_list<P: Parse>(input: &mut Input<'_>) -> Result<AmqpError, ReadError>
 fn received<P: Parse>(input: &mut Input<'_>) -> Result<DeliveryState, ReadError>
     ensures { Reads (received_at P.Parse.reading) input.old input.new result }
 {
-    P::list(input, 2, 2)?;
+    P::list(input, 2..=2)?;
     let section_number = input.must::<P, u32>()?;
     let section_offset = input.must::<P, u64>()?;
     Ok(DeliveryState::Received(Received {
@@ -99,7 +99,7 @@ fn received<P: Parse>(input: &mut Input<'_>) -> Result<DeliveryState, ReadError>
 fn rejected<P: Parse>(input: &mut Input<'_>) -> Result<DeliveryState, ReadError>
     ensures { Reads (rejected_at P.Parse.reading) input.old input.new result }
 {
-    P::list(input, 0, 1)?;
+    P::list(input, 0..=1)?;
     let error = input.may::<P, AmqpError>()?;
     Ok(DeliveryState::Rejected(error))
 }
@@ -108,7 +108,7 @@ fn rejected<P: Parse>(input: &mut Input<'_>) -> Result<DeliveryState, ReadError>
 fn modified<P: Parse>(input: &mut Input<'_>) -> Result<DeliveryState, ReadError>
     ensures { Reads (modified_at P.Parse.reading) input.old input.new result }
 {
-    P::list(input, 0, 3)?;
+    P::list(input, 0..=3)?;
     let delivery_failed = input.may::<P, bool>()?;
     let undeliverable_here = input.may::<P, bool>()?;
     input.null::<P>()?;
@@ -123,7 +123,7 @@ fn modified<P: Parse>(input: &mut Input<'_>) -> Result<DeliveryState, ReadError>
 fn plain<P: Parse>(input: &mut Input<'_>, state: DeliveryState) -> Result<DeliveryState, ReadError>
     ensures { Reads (plain_at P.Parse.reading state) input.old input.new result }
 {
-    P::list(input, 0, 0)?;
+    P::list(input, 0..=0)?;
     Ok(state)
 }
 

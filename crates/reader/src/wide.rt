@@ -7,6 +7,7 @@ use crate::parse::Parse;
 use crate::width::Width;
 use codec::error::ReadError;
 use codec::wide::Wide;
+use std::ops::RangeInclusive;
 
 impl Parse for Wide {
     ghost reading = { wide_reading };
@@ -48,10 +49,11 @@ impl Parse for Wide {
     }
 
     // Every field is there.
-    fn list(input: &mut Input<'_>, _least: u8, most: u8) -> Result<(), ReadError> {
+    fn list(input: &mut Input<'_>, fields: RangeInclusive<u8>) -> Result<(), ReadError> {
         input.byte(0xd0)?;
         // The size.
         input.take(4)?;
-        input.count(Width::Four, most, most)
+        let (_, most) = fields.into_inner();
+        input.count(Width::Four, most..=most)
     }
 }
