@@ -6,6 +6,10 @@ use Rattle.codec.specs.Form.{Form, encoded, absent}
 use Rattle.codec.specs.Meaning.{Ranged}
 use Rattle.codec.specs.declared.body.Body.{Body}
 
+-- n more bytes find room
+abbrev pub HasRoom : ℕ → ArrayVec ℕ → Type 0
+HasRoom n s = array_vec_len s + n ≤ 256
+
 -- from s to t these bytes, at most n, came to the end
 pub record Appended (n : ℕ) (b : List ℕ) (s t : ArrayVec ℕ) : Type 0 where
   pub made : t.items ≡ s.items ++ b

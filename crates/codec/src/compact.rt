@@ -1,39 +1,19 @@
 // The compact encoder: the shortest codes, and nothing that can be left out.
-ghost use Rattle.std.specs.Prelude.{◌≡◌, ◌+◌, ◌<◌, ◌≤◌, length};
-ghost use Rattle.arrayvec.specs.ArrayVec.{array_vec_len};
-ghost use Rattle.codec.specs.Bodies.{Appended};
+ghost use Rattle.std.specs.Prelude.{◌≡◌, ◌+◌, ◌≤◌, length};
+ghost use Rattle.codec.specs.Bodies.{HasRoom, Appended};
 ghost use Rattle.codec.specs.Compact.{compact_form, shortest};
 ghost use Rattle.codec.specs.Headers.{compact_bytes, AtMost255, PlainMeasures21};
 ghost use Rattle.codec.specs.Forms.{compact_lawful};
 
+use crate::codes::{Codes, UINT, ULONG};
 use crate::form::Form;
 use crate::scratch::{Scratch, append_coded};
 
 #[derive(Clone, Copy)]
 pub struct Compact;
 
-// The codes of a number by its size: of 0, before one byte, and before all digits.
-#[derive(Clone, Copy)]
-struct Codes {
-    none: u8,
-    small: u8,
-    wide: u8,
-}
-
-const UINT: Codes = Codes {
-    none: 0x43,
-    small: 0x52,
-    wide: 0x70,
-};
-
-const ULONG: Codes = Codes {
-    none: 0x44,
-    small: 0x53,
-    wide: 0x80,
-};
-
 fn append_shortest(out: &mut Scratch, codes: Codes, x: u64, digits: &[u8])
-    requires room { array_vec_len out.old + length digits.now < 256 }
+    requires room { HasRoom (length digits.now + 1) out.old }
     requires some { 1 ≤ length digits.now }
     ensures { Appended (length digits.now + 1) (shortest codes.none codes.small codes.wide digits.now x) out.old out.new }
 {
@@ -85,7 +65,7 @@ impl Form for Compact {
     }
 }
 
-// A compact header is at most 255 bytes long: `short`, a lemma about every form, said of this one.
+// A compact header is at most 255 bytes long.
 pub fn compact_is_at_most_255()
     ensures { AtMost255 compact_bytes }
 {}

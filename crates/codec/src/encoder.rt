@@ -25,6 +25,7 @@ pub trait Encoder {
 }
 
 // Holds a transfer while it is measured, and puts its own id and `more` back on every way out.
+// Measured in place and not as a copy: its own values are to be put back (docs/DECISIONS.md, Forms).
 struct Widened<'a> {
     transfer: &'a mut Transfer,
     delivery_id: Option<u32>,

@@ -2,6 +2,7 @@
 #![tactic(auto)]
 
 mod body;
+pub mod codes;
 pub mod compact;
 mod descriptor;
 pub mod encoder;

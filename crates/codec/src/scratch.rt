@@ -1,6 +1,7 @@
 // Bytes of a header as they are made, at most 256.
-ghost use Rattle.std.specs.Prelude.{◌≡◌, ◌+◌, ◌<◌, ◌≤◌, ◌∷◌, ◌++◌, length};
+ghost use Rattle.std.specs.Prelude.{◌≡◌, ◌+◌, ◌∷◌, ◌++◌, length};
 ghost use Rattle.arrayvec.specs.ArrayVec.{array_vec_len};
+ghost use Rattle.codec.specs.Bodies.{HasRoom};
 ghost use Rattle.codec.specs.Written.{written, after_write};
 
 use amqp::error::MemoryError;
@@ -10,7 +11,7 @@ pub(crate) type Scratch = ArrayVec<u8, 256>;
 
 // Appends bytes that fit.
 pub(crate) fn append(out: &mut Scratch, more: &[u8])
-    requires { array_vec_len out.old + length more.now ≤ 256 }
+    requires { HasRoom (length more.now) out.old }
     ensures items { out.new.items ≡ out.old.items ++ more.now }
     ensures len { array_vec_len out.new ≡ array_vec_len out.old + length more.now }
 {
@@ -19,7 +20,7 @@ pub(crate) fn append(out: &mut Scratch, more: &[u8])
 
 // Appends a code, and the bytes that belong to it.
 pub(crate) fn append_coded(out: &mut Scratch, code: u8, more: &[u8])
-    requires { array_vec_len out.old + length more.now < 256 }
+    requires { HasRoom (length more.now + 1) out.old }
     ensures items { out.new.items ≡ out.old.items ++ code ∷ more.now }
     ensures len { array_vec_len out.new ≡ array_vec_len out.old + length more.now + 1 }
 {
@@ -35,7 +36,7 @@ pub(crate) fn copy_to(bytes: &[u8], out: &mut [u8]) -> Result<usize, MemoryError
     if out.len() < bytes.len() {
         return Err(MemoryError::TooShort);
     }
-    // By index: of bytes written through `get_mut`, a proof knows only how many they are.
+    // Through an index range, and not through `get_mut`, of which a proof knows only the length.
     out[..bytes.len()].copy_from_slice(bytes);
     Ok(bytes.len())
 }

@@ -46,7 +46,7 @@ impl Form for Wide {
     }
 }
 
-// A wide header is at most 255 bytes long: `short`, a lemma about every form, said of this one.
+// A wide header is at most 255 bytes long.
 pub fn wide_is_at_most_255()
     ensures { AtMost255 wide_bytes }
 {}

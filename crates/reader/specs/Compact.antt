@@ -11,10 +11,10 @@ small_at src at = cond (nat_lt at (length src)) (cond (slice_index src at == 0) 
 
 -- a number: a code for 0, a code and a byte, a code and all bytes
 abbrev pub number_at : ℕ → ℕ → ℕ → Reader ℕ → Reader ℕ
-number_at none small all whole src at =
+number_at none small wide whole src at =
     cond (nat_lt at (length src))
     (cond (slice_index src at == none) (Ok (0, at + 1))
-    (cond (slice_index src at == small) (small_at src (at + 1)) (cond (slice_index src at == all) (whole src (at + 1)) (Err at))))
+    (cond (slice_index src at == small) (small_at src (at + 1)) (cond (slice_index src at == wide) (whole src (at + 1)) (Err at))))
     (Err at)
 
 abbrev pub compact_bool_at : Reader Bool

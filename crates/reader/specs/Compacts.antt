@@ -51,15 +51,15 @@ full (described d v) e = first 0x00 _ (λ z. omega arith)
 
 -- numbers
 
-module _ (none small all : ℕ) (n1 : nat_eq small none ≡ false) (n2 : nat_eq all none ≡ false) (n3 : nat_eq all small ≡ false) (whole : Reader ℕ) (src : List ℕ) (at x : ℕ) (ys : List ℕ) where
-  numbered : (b0 b1 : Bool) → (x == 0) ≡ b0 → nat_lt x 256 ≡ b1 → (nat_lt x 256 ≡ false → Has src (at + 1) ys → whole src (at + 1) ≡ Ok (x, at + 1 + length ys)) → Has src at (cond b0 (none ∷ []) (cond b1 (small ∷ x ∷ []) (all ∷ ys))) → number_at none small all whole src at ≡ Ok (x, at + length (cond b0 (none ∷ []) (cond b1 (small ∷ x ∷ []) (all ∷ ys))))
+module _ (none small wide : ℕ) (n1 : nat_eq small none ≡ false) (n2 : nat_eq wide none ≡ false) (n3 : nat_eq wide small ≡ false) (whole : Reader ℕ) (src : List ℕ) (at x : ℕ) (ys : List ℕ) where
+  numbered : (b0 b1 : Bool) → (x == 0) ≡ b0 → nat_lt x 256 ≡ b1 → (nat_lt x 256 ≡ false → Has src (at + 1) ys → whole src (at + 1) ≡ Ok (x, at + 1 + length ys)) → Has src at (cond b0 (none ∷ []) (cond b1 (small ∷ x ∷ []) (wide ∷ ys))) → number_at none small wide whole src at ≡ Ok (x, at + length (cond b0 (none ∷ []) (cond b1 (small ∷ x ∷ []) (wide ∷ ys))))
   numbered true b1 e0 e1 w (h0, h1, h2) = rw (lt-ltb at (length src) h0, h1, eq-eqb none none refl, eqb-true x 0 e0)
   numbered false true e0 e1 w (h0, h1, (k0, k1, k2)) =
       let e : at + 1 + 1 ≡ at + 2 = omega arith in
       rw (lt-ltb at (length src) h0, h1, n1, eq-eqb small small refl, lt-ltb (at + 1) (length src) k0, k1, e0) (rw e)
   numbered false false e0 e1 w (h0, h1, h2) =
       let e : at + 1 + length ys ≡ at + suc (length ys) = omega arith in
-      rw (lt-ltb at (length src) h0, h1, n2, n3, eq-eqb all all refl, w e1 h2) (rw e)
+      rw (lt-ltb at (length src) h0, h1, n2, n3, eq-eqb wide wide refl, w e1 h2) (rw e)
 
 large : (width : ℕ) (src : List ℕ) (at x : ℕ) → nat_lt x 256 ≡ false → (at + width ≤ length src) × (number width src at ≡ x) → from_at width 256 src at ≡ Ok (x, at + width)
 large width src at x e f = rw (le-ltb (length src) (at + width) f.0, f.1, e)

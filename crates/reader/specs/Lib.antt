@@ -1,5 +1,7 @@
 pub mod Places
+pub mod Ranges
 pub mod Numbers
+pub mod Widths
 pub mod Inputs
 pub mod Reading
 pub mod Fields

@@ -1,32 +1,29 @@
 // The compact form as it is read.
-ghost use Rattle.std.specs.Prelude.{◌≡◌, ◌^◌, ◌<◌, ◌≤◌, IfOk};
+ghost use Rattle.std.specs.Prelude.{◌^◌, ◌<◌, IfOk};
 ghost use Rattle.reader.specs.Compact.{number_at, compact_reading};
 ghost use Rattle.reader.specs.Compacts.{compact_lawful, compact_written};
 ghost use Rattle.reader.specs.Inputs.{Reads};
 ghost use Rattle.reader.specs.Numbers.{from_at};
+ghost use Rattle.reader.specs.Widths.{width_of};
 
 use crate::input::Input;
 use crate::parse::Parse;
+use crate::width::Width;
+use codec::codes::{Codes, UINT, ULONG};
 use codec::compact::Compact;
 use codec::error::ReadError;
+use std::ops::RangeInclusive;
 
-// A number by its codes: for 0, for one byte, and for all of its `width` bytes.
-fn number(
-    input: &mut Input<'_>,
-    none: u8,
-    small: u8,
-    all: u8,
-    width: usize,
-) -> Result<u64, ReadError>
-    requires { (0 < width) × (width ≤ 8) }
-    ensures read { Reads (number_at none small all (from_at width 256)) input.old input.new result }
-    ensures fits { IfOk result (λ x. x < 256 ^ width) }
+// A number by its codes; all of its bytes are `width`.
+fn number(input: &mut Input<'_>, codes: Codes, width: Width) -> Result<u64, ReadError>
+    ensures read { Reads (number_at codes.none codes.small codes.wide (from_at (width_of width) 256)) input.old input.new result }
+    ensures fits { IfOk result (λ x. x < 256 ^ width_of width) }
 {
     let fault = input.fault();
     match input.next()? {
-        code if code == none => Ok(0),
-        code if code == small => input.number_from(1, 1),
-        code if code == all => input.number_from(width, 256),
+        code if code == codes.none => Ok(0),
+        code if code == codes.small => input.number_from(Width::One, 1),
+        code if code == codes.wide => input.number_from(width, 256),
         _ => Err(fault),
     }
 }
@@ -43,11 +40,11 @@ impl Parse for Compact {
     }
 
     fn uint(input: &mut Input<'_>) -> Result<u32, ReadError> {
-        Ok(number(input, 0x43, 0x52, 0x70, 4)? as u32)
+        Ok(number(input, UINT, Width::Four)? as u32)
     }
 
     fn ulong(input: &mut Input<'_>) -> Result<u64, ReadError> {
-        number(input, 0x44, 0x53, 0x80, 8)
+        number(input, ULONG, Width::Eight)
     }
 
     fn boolean(input: &mut Input<'_>) -> Result<bool, ReadError> {
@@ -60,20 +57,21 @@ impl Parse for Compact {
     }
 
     fn binary<'a>(input: &mut Input<'a>, most: u64) -> Result<&'a [u8], ReadError> {
-        input.sized(0xa0, 1, most)
+        input.sized(0xa0, Width::One, most)
     }
 
     fn symbol<'a>(input: &mut Input<'a>, most: u64) -> Result<&'a [u8], ReadError> {
-        input.sized(0xa3, 1, most)
+        input.sized(0xa3, Width::One, most)
     }
 
-    fn list(input: &mut Input<'_>, least: u8, most: u8) -> Result<(), ReadError> {
+    fn list(input: &mut Input<'_>, fields: RangeInclusive<u8>) -> Result<(), ReadError> {
+        let (least, most) = fields.into_inner();
         if input.peek()? == 0x45 {
             return input.empty(least);
         }
         input.byte(0xc0)?;
         // The size.
         input.take(1)?;
-        input.count(1, least.max(1), most)
+        input.count(Width::One, least.max(1)..=most)
     }
 }

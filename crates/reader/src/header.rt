@@ -16,7 +16,7 @@ use codec::error::ReadError;
 fn transfer<P: Parse>(input: &mut Input<'_>) -> Result<Header, ReadError>
     ensures { Reads (transfer_at P.Parse.reading) input.old input.new result }
 {
-    P::list(input, 1, 11)?;
+    P::list(input, 1..=11)?;
     let handle = input.must::<P, u32>()?;
     let delivery_id = input.may::<P, u32>()?;
     let delivery_tag = input.may::<P, DeliveryTag>()?;
@@ -47,7 +47,7 @@ fn transfer<P: Parse>(input: &mut Input<'_>) -> Result<Header, ReadError>
 fn disposition<P: Parse>(input: &mut Input<'_>) -> Result<Header, ReadError>
     ensures { Reads (disposition_at P.Parse.reading) input.old input.new result }
 {
-    P::list(input, 2, 6)?;
+    P::list(input, 2..=6)?;
     let role = input.at;
     let is_receiver = input.must::<P, bool>()?;
     if is_receiver {
@@ -84,6 +84,7 @@ pub(crate) fn whole<P: Parse>(form: &P, src: &[u8]) -> Result<Header, ReadError>
     ensures { result ≡ read_of P.Parse.reading src.now }
 {
     let header = header::<P>(&mut Input::new(src))?;
+    // An encoder writes into memory that is lent to it.
     let mut bytes = [0; 256];
     let len = form.write(&header, &mut bytes).unwrap();
     only(src, &bytes[..len], header)

@@ -1,7 +1,9 @@
 // The bytes that are read, and how far. An error is the place of the fault.
 ghost use Rattle.std.specs.Prelude.{◌≡◌, ◌≤◌, length};
 
+use crate::width::Width;
 use codec::error::ReadError;
+use std::ops::RangeInclusive;
 
 #[derive(Drop)]
 pub(crate) struct Input<'a> {
@@ -17,6 +19,9 @@ impl<'a> Input<'a> {
     ghost use Rattle.codec.specs.declared.error.ReadError.TheVariants.{NotEncoded};
     ghost use Rattle.reader.specs.Places.{value_place, byte_at};
     ghost use Rattle.reader.specs.Numbers.{peek_at, next_at, taken_at, whole_at, from_at, sized_at, count_of, none_of};
+    ghost use Rattle.std.specs.Range.{range_inclusive_start, range_inclusive_end};
+    ghost use Rattle.reader.specs.Ranges.{IsFresh};
+    ghost use Rattle.reader.specs.Widths.{width_of};
     ghost use Rattle.reader.specs.Inputs.{outcome, Tells, Reads, Spells, Opens};
 
     pub(crate) fn new(src: &'a [u8]) -> Input<'a>
@@ -85,34 +90,31 @@ impl<'a> Input<'a> {
         Ok(&self.src[start..self.at])
     }
 
-    // The number of the next `width` bytes, the highest first.
-    pub(crate) fn number(&mut self, width: usize) -> Result<u64, ReadError>
-        requires { width ≤ 8 }
-        ensures read { Reads (whole_at width) self.old self.new result }
-        ensures fits { IfOk result (λ x. x < 256 ^ width) }
+    // The number of the next bytes, as many as `width` says, the highest first.
+    pub(crate) fn number(&mut self, width: Width) -> Result<u64, ReadError>
+        ensures read { Reads (whole_at (width_of width)) self.old self.new result }
+        ensures fits { IfOk result (λ x. x < 256 ^ width_of width) }
     {
         let mut x = 0;
-        for _ in 0..width {
-            x = x * 256 + u64::from(self.next()?);
+        for byte in self.take(width.bytes())? {
+            x = x * 256 + u64::from(*byte);
         }
         Ok(x)
     }
 
     // The same, and not below `least`: a smaller number has a shorter code.
-    pub(crate) fn number_from(&mut self, width: usize, least: u64) -> Result<u64, ReadError>
-        requires { width ≤ 8 }
-        ensures read { Reads (from_at width least) self.old self.new result }
-        ensures fits { IfOk result (λ x. x < 256 ^ width) }
+    pub(crate) fn number_from(&mut self, width: Width, least: u64) -> Result<u64, ReadError>
+        ensures read { Reads (from_at (width_of width) least) self.old self.new result }
+        ensures fits { IfOk result (λ x. x < 256 ^ width_of width) }
     {
         let fault = self.fault();
         let x = self.number(width)?;
         if x < least { Err(fault) } else { Ok(x) }
     }
 
-    // A code, the number of the bytes in `width` bytes, and the bytes, at most `most`.
-    pub(crate) fn sized(&mut self, code: u8, width: usize, most: u64) -> Result<&'a [u8], ReadError>
-        requires { width ≤ 8 }
-        ensures read { Spells (sized_at width code most) self.old self.new result }
+    // A code, the number of the bytes, as wide as `width` says, and the bytes, at most `most`.
+    pub(crate) fn sized(&mut self, code: u8, width: Width, most: u64) -> Result<&'a [u8], ReadError>
+        ensures read { Spells (sized_at (width_of width) code most) self.old self.new result }
         ensures few { IfOk result (λ s. length s.now ≤ most) }
     {
         self.byte(code)?;
@@ -125,19 +127,23 @@ impl<'a> Input<'a> {
         }
     }
 
-    // The number of the fields of a list in `width` bytes: the fields begin here.
-    pub(crate) fn count(&mut self, width: usize, least: u8, most: u8) -> Result<(), ReadError>
-        requires { width ≤ 8 }
-        ensures { Opens (count_of width least most) self.old self.new result }
+    // The number of the fields of a list, as wide as `width` says, and one of `fields`: they begin here.
+    pub(crate) fn count(
+        &mut self,
+        width: Width,
+        fields: RangeInclusive<u8>,
+    ) -> Result<(), ReadError>
+        requires { IsFresh fields }
+        ensures { Opens (count_of (width_of width) (range_inclusive_start fields) (range_inclusive_end fields)) self.old self.new result }
     {
         let fault = self.fault();
-        // A rule of the project has counts matched with guards.
-        match self.number(width)? {
-            n if n < u64::from(least) || n > u64::from(most) => Err(fault),
-            n => {
-                self.left = n as u8;
+        // Counts are matched with guards (docs/DECISIONS.md, Forms).
+        match u8::try_from(self.number(width)?) {
+            Ok(count) if fields.contains(&count) => {
+                self.left = count;
                 Ok(())
             }
+            _ => Err(fault),
         }
     }
 

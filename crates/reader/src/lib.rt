@@ -11,3 +11,4 @@ mod same;
 mod state;
 mod tag;
 mod wide;
+mod width;

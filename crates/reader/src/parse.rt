@@ -1,6 +1,8 @@
 // How a form is read: what differs from form to form.
 ghost use Rattle.std.specs.Prelude.{◌≡◌, ◌≤◌, length, IfOk};
 ghost use Rattle.amqp.specs.declared.header.Header.{Header as HeaderModel};
+ghost use Rattle.std.specs.Range.{range_inclusive_start, range_inclusive_end};
+ghost use Rattle.reader.specs.Ranges.{IsFresh};
 ghost use Rattle.reader.specs.Inputs.{Reads, Spells, Opens};
 ghost use Rattle.reader.specs.Reading.{Reading};
 ghost use Rattle.reader.specs.Laws.{Lawful, Written};
@@ -8,6 +10,7 @@ ghost use Rattle.reader.specs.Laws.{Lawful, Written};
 use crate::input::Input;
 use codec::encoder::Encoder;
 use codec::error::ReadError;
+use std::ops::RangeInclusive;
 
 pub(crate) trait Parse: Encoder {
     ghost reading: { Reading };
@@ -34,9 +37,10 @@ pub(crate) trait Parse: Encoder {
     fn symbol<'a>(input: &mut Input<'a>, most: u64) -> Result<&'a [u8], ReadError>
         ensures { Spells (reading.symbol_at most) input.old input.new result };
 
-    // Up to the fields of a list, of which there are `least` to `most`.
-    fn list(input: &mut Input<'_>, least: u8, most: u8) -> Result<(), ReadError>
-        ensures { Opens (reading.list_at least most) input.old input.new result };
+    // Up to the fields of a list, whose number has to be one of `fields`.
+    fn list(input: &mut Input<'_>, fields: RangeInclusive<u8>) -> Result<(), ReadError>
+        requires { IsFresh fields }
+        ensures { Opens (reading.list_at (range_inclusive_start fields) (range_inclusive_end fields)) input.old input.new result };
 
     ghost lawful: { Lawful reading };
 

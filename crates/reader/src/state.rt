@@ -1,5 +1,5 @@
 // Delivery states and errors as they are read (Part 3, 3.4; Part 2, 2.8.14).
-ghost use Rattle.std.specs.Prelude.{◌≡◌};
+ghost use Rattle.std.specs.Prelude.{◌≡◌, ◌≤◌};
 ghost use Rattle.reader.specs.Inputs.{Reads};
 ghost use Rattle.reader.specs.States.{condition_of, name_at, described_at, error_list_at, error_at, received_at, rejected_at, modified_at, plain_at, state_by, state_at};
 
@@ -38,7 +38,6 @@ fn condition_named(name: &[u8]) -> Option<AmqpError>
 }
 
 // The code of a described list, which is read up to the list.
-// Codes stay numbers: a rule of the project has them matched by ranges.
 #[tactic(auto, unfolding(crate::specs::States::described_at))]
 pub(crate) fn described<P: Parse>(input: &mut Input<'_>) -> Result<u64, ReadError>
     ensures { Reads (described_at P.Parse.reading) input.old input.new result }
@@ -73,7 +72,7 @@ impl Item for AmqpError {
 fn error_list<P: Parse>(input: &mut Input<'_>) -> Result<AmqpError, ReadError>
     ensures { Reads (error_list_at P.Parse.reading) input.old input.new result }
 {
-    P::list(input, 1, 3)?;
+    P::list(input, 1..=3)?;
     // Counted here, since the item of a condition is the whole error and not its name.
     let left = input.left.saturating_sub(1);
     let condition = name::<P>(input)?;
@@ -87,7 +86,7 @@ fn error_list<P: Parse>(input: &mut Input<'_>) -> Result<AmqpError, ReadError>
 fn received<P: Parse>(input: &mut Input<'_>) -> Result<DeliveryState, ReadError>
     ensures { Reads (received_at P.Parse.reading) input.old input.new result }
 {
-    P::list(input, 2, 2)?;
+    P::list(input, 2..=2)?;
     let section_number = input.must::<P, u32>()?;
     let section_offset = input.must::<P, u64>()?;
     Ok(DeliveryState::Received(Received {
@@ -100,7 +99,7 @@ fn received<P: Parse>(input: &mut Input<'_>) -> Result<DeliveryState, ReadError>
 fn rejected<P: Parse>(input: &mut Input<'_>) -> Result<DeliveryState, ReadError>
     ensures { Reads (rejected_at P.Parse.reading) input.old input.new result }
 {
-    P::list(input, 0, 1)?;
+    P::list(input, 0..=1)?;
     let error = input.may::<P, AmqpError>()?;
     Ok(DeliveryState::Rejected(error))
 }
@@ -109,7 +108,7 @@ fn rejected<P: Parse>(input: &mut Input<'_>) -> Result<DeliveryState, ReadError>
 fn modified<P: Parse>(input: &mut Input<'_>) -> Result<DeliveryState, ReadError>
     ensures { Reads (modified_at P.Parse.reading) input.old input.new result }
 {
-    P::list(input, 0, 3)?;
+    P::list(input, 0..=3)?;
     let delivery_failed = input.may::<P, bool>()?;
     let undeliverable_here = input.may::<P, bool>()?;
     input.null::<P>()?;
@@ -124,12 +123,13 @@ fn modified<P: Parse>(input: &mut Input<'_>) -> Result<DeliveryState, ReadError>
 fn plain<P: Parse>(input: &mut Input<'_>, state: DeliveryState) -> Result<DeliveryState, ReadError>
     ensures { Reads (plain_at P.Parse.reading state) input.old input.new result }
 {
-    P::list(input, 0, 0)?;
+    P::list(input, 0..=0)?;
     Ok(state)
 }
 
 // The state of a code from 0x23 to 0x27.
 fn state_by<P: Parse>(input: &mut Input<'_>, code: u64) -> Result<DeliveryState, ReadError>
+    requires { (0x23 ≤ code) × (code ≤ 0x27) }
     ensures { Reads (state_by P.Parse.reading code) input.old input.new result }
 {
     match code {
@@ -137,7 +137,8 @@ fn state_by<P: Parse>(input: &mut Input<'_>, code: u64) -> Result<DeliveryState,
         0x24 => plain::<P>(input, DeliveryState::Accepted),
         0x25 => rejected::<P>(input),
         0x26 => plain::<P>(input, DeliveryState::Released),
-        _ => modified::<P>(input),
+        0x27 => modified::<P>(input),
+        _ => Err(input.fault()),
     }
 }
 
@@ -148,6 +149,7 @@ impl Item for DeliveryState {
     fn read<P: Parse>(input: &mut Input<'_>) -> Result<DeliveryState, ReadError> {
         let start = input.at;
         let code = described::<P>(input)?;
+        // Codes stay numbers, matched by ranges (docs/DECISIONS.md, Forms).
         match code {
             0x23..=0x27 => state_by::<P>(input, code),
             _ => Err(input.fault_from(start + 1)),

@@ -4,8 +4,10 @@ ghost use Rattle.reader.specs.Wides.{wide_lawful, wide_written};
 
 use crate::input::Input;
 use crate::parse::Parse;
+use crate::width::Width;
 use codec::error::ReadError;
 use codec::wide::Wide;
+use std::ops::RangeInclusive;
 
 impl Parse for Wide {
     ghost reading = { wide_reading };
@@ -20,12 +22,12 @@ impl Parse for Wide {
 
     fn uint(input: &mut Input<'_>) -> Result<u32, ReadError> {
         input.byte(0x70)?;
-        Ok(input.number(4)? as u32)
+        Ok(input.number(Width::Four)? as u32)
     }
 
     fn ulong(input: &mut Input<'_>) -> Result<u64, ReadError> {
         input.byte(0x80)?;
-        input.number(8)
+        input.number(Width::Eight)
     }
 
     fn boolean(input: &mut Input<'_>) -> Result<bool, ReadError> {
@@ -39,18 +41,19 @@ impl Parse for Wide {
     }
 
     fn binary<'a>(input: &mut Input<'a>, most: u64) -> Result<&'a [u8], ReadError> {
-        input.sized(0xb0, 4, most)
+        input.sized(0xb0, Width::Four, most)
     }
 
     fn symbol<'a>(input: &mut Input<'a>, most: u64) -> Result<&'a [u8], ReadError> {
-        input.sized(0xb3, 4, most)
+        input.sized(0xb3, Width::Four, most)
     }
 
     // Every field is there.
-    fn list(input: &mut Input<'_>, _least: u8, most: u8) -> Result<(), ReadError> {
+    fn list(input: &mut Input<'_>, fields: RangeInclusive<u8>) -> Result<(), ReadError> {
         input.byte(0xd0)?;
         // The size.
         input.take(4)?;
-        input.count(4, most, most)
+        let (_, most) = fields.into_inner();
+        input.count(Width::Four, most..=most)
     }
 }
