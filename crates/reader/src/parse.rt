@@ -15,7 +15,7 @@ use std::ops::RangeInclusive;
 pub(crate) trait Parse: Encoder {
     ghost reading: { Reading };
 
-    // Whether what may be left out is left out.
+    // Whether what may be left out is left out: said once more, since the encoder's trait of forms is private to codec.
     fn terse() -> bool
         ensures { result ≡ reading.form.terse };
 
