@@ -1,8 +1,10 @@
 // Messages on their way out, and how deliveries end.
-ghost use Rattle.std.specs.Prelude.{◌≡◌};
+ghost use Rattle.std.specs.Prelude.{◌≡◌, Some};
 ghost use Rattle.link.specs.Outcomes.{ended, recorded, outcome_of};
+ghost use Rattle.link.specs.Texts.{outcome_text};
 
 use amqp::state::DeliveryState;
+use std::fmt;
 use unsettled::message::Place;
 
 // A message to send: where it lies in the pool, and what its first transfer says of it.
@@ -48,6 +50,17 @@ impl From<Option<DeliveryState>> for Outcome {
         match state {
             Some(s) => Outcome::State(s),
             None => Outcome::NoState,
+        }
+    }
+}
+
+impl fmt::Display for Outcome {
+    ghost output = { λ o. Some (outcome_text o) };
+
+    fn fmt<W: fmt::Write>(&self, f: &mut fmt::Formatter<W>) -> fmt::Result {
+        match *self {
+            Outcome::State(state) => write!(f, "{state}"),
+            Outcome::NoState => f.write_str("none"),
         }
     }
 }
