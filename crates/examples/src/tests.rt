@@ -30,10 +30,8 @@ fn credit_after(
     let mut link = memory
         .link(settings_for(512), initial)
         .map_err(|_| Fail::new("no link"))?;
-    Ok(
-        link.flow(&grant(seen, credit))
-            .and_then(|flow| flow.link_credit),
-    )
+    let answer = link.flow(&grant(seen, credit));
+    Ok(answer.and_then(|flow| flow.link_credit))
 }
 
 #[test]
@@ -73,7 +71,7 @@ fn sent(
 // How many frames wait, and how long the last payload is.
 fn taken(queue: &mut Queue, out: &mut [u8]) -> (usize, usize) {
     (1..=4)
-        .map_while(|n| Some((n, queue.take(out).ok()??.size)))
+        .map_while(|n| queue.take(out).ok().flatten().map(|place| (n, place.size)))
         .last()
         .unwrap_or_default()
 }

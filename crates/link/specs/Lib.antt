@@ -3,6 +3,7 @@ pub mod States
 pub mod Credit
 pub mod Settings
 pub mod Outcomes
+pub mod Texts
 pub mod Seats
 pub mod Views
 pub mod Turns
@@ -10,4 +11,3 @@ pub mod Attaching
 pub mod Sending
 pub mod Disposing
 pub mod Calls
-pub mod Texts

@@ -5,3 +5,4 @@ pub mod Rounds
 pub mod Shipments
 pub mod Attaches
 pub mod Wording
+pub mod Telling

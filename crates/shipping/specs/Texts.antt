@@ -1,10 +1,10 @@
--- What is printed of outcomes, shipments and totals.
+-- What is printed of shipments and totals.
 use Rattle.std.specs.Prelude.{ℕ, ◌+◌, min, Bool, true, false, cond, List, ◌++◌, Some, None, codes, decimal, Option}
 use Rattle.amqp.specs.declared.state.DeliveryState.TheVariants.{Received, Accepted, Rejected, Released, Modified}
 use Rattle.amqp.specs.Refusals.{send_number}
-use Rattle.amqp.specs.Texts.{state_text}
 use Rattle.link.specs.declared.delivery.Outcome.{Outcome}
 use Rattle.link.specs.declared.delivery.Outcome.TheVariants.{State, NoState}
+use Rattle.link.specs.Texts.{outcome_text}
 use Rattle.shipping.specs.declared.report.ShipError.{ShipError}
 use Rattle.shipping.specs.declared.report.ShipError.TheVariants.{Refused, NoMemory, Link}
 use Rattle.shipping.specs.declared.report.Shipment.{Shipment}
@@ -12,8 +12,7 @@ use Rattle.shipping.specs.declared.report.Totals.{Totals}
 
 abbrev pub told_text : Option Outcome → List ℕ
 told_text None = codes "pending"
-told_text (Some NoState) = codes "none"
-told_text (Some (State s)) = state_text s
+told_text (Some o) = outcome_text o
 
 abbrev pub shipment_text : Shipment → List ℕ
 shipment_text s = decimal s.frames ++ (codes " frames, ticket " ++ (decimal s.ticket ++ (codes ", " ++ told_text s.progress)))

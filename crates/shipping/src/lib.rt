@@ -6,7 +6,6 @@ pub mod dock;
 pub mod message;
 pub mod number;
 pub mod options;
-pub mod outcome;
 pub mod report;
 pub mod shelf;
 pub mod unload;

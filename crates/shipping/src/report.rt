@@ -2,11 +2,12 @@
 ghost use Rattle.std.specs.Prelude.{◌≡◌, Some};
 ghost use Rattle.shipping.specs.declared.report.ShipError.TheVariants.{Refused, NoMemory, Link};
 ghost use Rattle.shipping.specs.Sections.{unshipped};
-ghost use Rattle.shipping.specs.Texts.{shipment_text, error_text, totals_text, tallied};
+ghost use Rattle.shipping.specs.Texts.{is_accepted, is_pending, shipment_text, error_text, totals_text, tallied};
 
 use crate::message::MessageError;
-use crate::outcome::Told;
 use amqp::error::{MemoryError, SendError, TicketError};
+use amqp::state::DeliveryState;
+use amqp::text::Or;
 use link::delivery::Outcome;
 use std::alloc::AllocError;
 use std::fmt;
@@ -80,14 +81,31 @@ impl From<TicketError> for ShipError {
     }
 }
 
+impl Shipment {
+    pub fn is_accepted(&self) -> bool
+        ensures { result ≡ is_accepted self.now.progress }
+    {
+        self.progress == Some(Outcome::State(DeliveryState::Accepted))
+    }
+
+    pub fn is_pending(&self) -> bool
+        ensures { result ≡ is_pending self.now.progress }
+    {
+        self.progress.is_none()
+    }
+}
+
 impl fmt::Display for Shipment {
     ghost output = { λ s. Some (shipment_text s) };
 
     fn fmt<W: fmt::Write>(&self, f: &mut fmt::Formatter<W>) -> fmt::Result {
-        let frames = self.frames;
-        let ticket = self.ticket;
-        let told = Told(self.progress);
-        write!(f, "{frames} frames, ticket {ticket}, {told}")
+        write!(
+            f,
+            "{} frames, ticket {}, {}",
+            self.frames,
+            self.ticket,
+            Or(self.progress, "pending")
+        )
     }
 }
 
@@ -96,10 +114,7 @@ impl fmt::Display for ShipError {
 
     fn fmt<W: fmt::Write>(&self, f: &mut fmt::Formatter<W>) -> fmt::Result {
         match *self {
-            ShipError::Refused(e) => {
-                let number = e.number();
-                write!(f, "refused {number}")
-            }
+            ShipError::Refused(refusal) => write!(f, "refused {}", refusal.number()),
             ShipError::NoMemory => f.write_str("not enough memory"),
             ShipError::Link => f.write_str("the link is not attached"),
         }
@@ -124,9 +139,12 @@ impl Totals {
         self.files = self.files.saturating_add(1);
         self.frames = self.frames.saturating_add(shipment.frames as u64);
         self.bytes = self.bytes.saturating_add(bytes as u64);
-        let told = Told(shipment.progress);
-        self.accepted = self.accepted.saturating_add(u64::from(told.is_accepted()));
-        self.pending = self.pending.saturating_add(u64::from(told.is_pending()));
+        self.accepted = self
+            .accepted
+            .saturating_add(u64::from(shipment.is_accepted()));
+        self.pending = self
+            .pending
+            .saturating_add(u64::from(shipment.is_pending()));
     }
 }
 
@@ -134,16 +152,10 @@ impl fmt::Display for Totals {
     ghost output = { λ s. Some (totals_text s) };
 
     fn fmt<W: fmt::Write>(&self, f: &mut fmt::Formatter<W>) -> fmt::Result {
-        let Totals {
-            files,
-            frames,
-            bytes,
-            accepted,
-            pending,
-        } = *self;
         write!(
             f,
-            "{files} files, {frames} frames, {bytes} bytes, {accepted} accepted, {pending} pending"
+            "{} files, {} frames, {} bytes, {} accepted, {} pending",
+            self.files, self.frames, self.bytes, self.accepted, self.pending
         )
     }
 }

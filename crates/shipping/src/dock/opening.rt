@@ -2,6 +2,7 @@
 ghost use Rattle.std.specs.Prelude.{◌≡◌, ℕ, IfOk, IsOkAnd};
 ghost use Rattle.queue.specs.Queues.{model_of, empty};
 ghost use Rattle.link.specs.Views.{Rooms, fresh, made};
+ghost use Rattle.runs.specs.Safe.{Begun};
 ghost use Rattle.sender.specs.Views.{rooms_of};
 ghost use Rattle.shipping.specs.Openings.{rooms_in, seats_in, settings_for, Answering, opened, AttachedIn, Opening};
 
@@ -10,6 +11,7 @@ use crate::archive::Archive;
 use crate::report::{OutOfMemory, ShipError};
 use amqp::error::MakeError;
 use amqp::mode::{ReceiverSettleMode, SenderSettleMode};
+use amqp::tag::DeliveryTag;
 use link::attach::Attach;
 use link::resumption::ResumingDelivery;
 use link::seat::Seat;
@@ -51,7 +53,11 @@ impl LinkMemory {
     pub fn with_entries(heap: Global, entries: usize) -> Result<LinkMemory, AllocError>
         ensures { IfOk result (λ m. (rooms_in m ≡ rooms_of entries entries entries) × (seats_in m ≡ entries)) }
     {
-        let blank = Slot::<UnsettledMessage>::default();
+        // Under the tag of the first delivery, so that a search past what the table holds would find it.
+        let blank = Slot {
+            tag: DeliveryTag::from_count(0),
+            entry: UnsettledMessage::default(),
+        };
         Ok(LinkMemory {
             table: vec![in heap; blank; entries]?,
             resume: vec![in heap; ResumingDelivery::Resend(blank); entries]?,
@@ -66,7 +72,8 @@ impl LinkMemory {
         settings: Settings,
         initial_delivery_count: u32,
     ) -> Result<SenderLink<'_>, MakeError>
-        ensures { result ≡ made settings initial_delivery_count (rooms_in self.old) (seats_in self.old) }
+        ensures link { result ≡ made settings initial_delivery_count (rooms_in self.old) (seats_in self.old) }
+        ensures no_delivery_lost_or_ended_twice { IfOk result (λ l. Begun l) }
     {
         SenderLink::new(
             settings,
@@ -79,7 +86,7 @@ impl LinkMemory {
     }
 }
 
-// A queue of so many places, each as wide as asked.
+// A queue of so many places, each as wide as asked. A payload has at most 65,535 bytes: wider is told as OutOfMemory.
 pub fn empty_queue(heap: Global, places: usize, widest: usize) -> Result<Queue, OutOfMemory>
     ensures { IfOk result (λ q. model_of q ≡ empty places widest) }
 {

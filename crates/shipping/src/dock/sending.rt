@@ -75,7 +75,7 @@ impl<'a> Dock<'a> {
         loop {
             match self.try_send(encoder, message) {
                 Ok(settlement) => return Ok(settlement),
-                // A guard and no pattern: after a pattern the proof would not know that the last arm's error is another.
+                // Compared and not matched, so that the proof knows of the error below that it is another.
                 Err(e) if e == SendError::SinkFull => self.make_room()?,
                 Err(e) => return Err(e.into()),
             }
