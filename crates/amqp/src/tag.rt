@@ -11,7 +11,7 @@ pub struct DeliveryTag {
 }
 
 impl DeliveryTag {
-    // The tag of these bytes, or none where there are more than 32.
+    // The tag of these bytes, or none where there are more than 32. An error of `TryFrom` could say no more.
     pub fn from_slice(s: &[u8]) -> Option<DeliveryTag>
         ensures { MatchOption result (32 + 1 ≤ length s.now) (λ t. (tag_bytes t ≡ s.now) × Canonical t) }
     {
@@ -26,7 +26,7 @@ impl DeliveryTag {
         })
     }
 
-    // A count's tag: its 4 bytes, highest first.
+    // A count's tag: its 4 bytes, highest first. A `From` would not say in which order.
     pub fn from_count(count: u32) -> DeliveryTag
         ensures { result ≡ tag_of count }
     {

@@ -11,6 +11,7 @@ use std::marker::PhantomData;
 
 const NULLS: [u8; 16] = [0x40; 16];
 
+// It has no model: clauses need its counts besides what it means, which is `met`.
 #[derive(Drop)]
 pub(crate) struct Body<F> {
     // The fields up to the last that is present, and how many they are.

@@ -65,7 +65,7 @@ impl Form for Compact {
     }
 }
 
-// A compact header is at most 255 bytes long.
+// A compact header is at most 255 bytes long. Forms are private to this crate, so each has a statement of its own.
 pub fn compact_is_at_most_255()
     ensures { AtMost255 compact_bytes }
 {}

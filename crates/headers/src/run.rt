@@ -94,6 +94,7 @@ fn checked<E: Reader>(
 
 // The encoder writes the header as these bytes.
 fn writes_as<E: Encoder>(encoder: &E, header: &Header, bytes: &[u8]) -> bool {
+    // An encoder writes into memory that is lent to it.
     let mut again = [0; 256];
     let written = encoder.write(header, &mut again);
     written.is_ok_and(|len| again.get(..len) == Some(bytes))

@@ -9,7 +9,7 @@ pub struct Attach<'p> {
     pub rcv_settle_mode: ReceiverSettleMode,
     pub has_target: bool,
     pub unsettled: &'p [PeerDelivery<'p>],
-    // A field of the attach: what the map lists counts all the same.
+    // The attach's own flag (Part 2, 2.7.3): what the map lists counts all the same.
     pub incomplete_unsettled: bool,
     // 0 for no limit, as on the wire (Part 2, 2.7.3).
     pub max_message_size: u64,

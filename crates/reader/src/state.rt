@@ -37,7 +37,7 @@ fn condition_named(name: &[u8]) -> Option<AmqpError>
         .find(|condition| condition_name(*condition) == name)
 }
 
-// The code of a described list, which is read up to the list.
+// The code of a described list, which is read up to the list. It stays a number, matched by ranges (docs/DECISIONS.md, Forms).
 #[tactic(auto, unfolding(crate::specs::States::described_at))]
 pub(crate) fn described<P: Parse>(input: &mut Input<'_>) -> Result<u64, ReadError>
     ensures { Reads (described_at P.Parse.reading) input.old input.new result }
@@ -149,7 +149,6 @@ impl Item for DeliveryState {
     fn read<P: Parse>(input: &mut Input<'_>) -> Result<DeliveryState, ReadError> {
         let start = input.at;
         let code = described::<P>(input)?;
-        // Codes stay numbers, matched by ranges (docs/DECISIONS.md, Forms).
         match code {
             0x23..=0x27 => state_by::<P>(input, code),
             _ => Err(input.fault_from(start + 1)),
