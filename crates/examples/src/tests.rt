@@ -30,9 +30,10 @@ fn credit_after(
     let mut link = memory
         .link(settings_for(512), initial)
         .map_err(|_| Fail::new("no link"))?;
-    Ok(link
-        .flow(&grant(seen, credit))
-        .and_then(|flow| flow.link_credit))
+    Ok(
+        link.flow(&grant(seen, credit))
+            .and_then(|flow| flow.link_credit),
+    )
 }
 
 #[test]
