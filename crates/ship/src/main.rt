@@ -61,9 +61,8 @@ fn ship_all(
 fn run(rt: &HostRuntime, options: &Options<'_>) -> Result<(), Failed> {
     let heap = rt.alloc();
     let mut memory = LinkMemory::new(heap).map_err(|_| fail(rt, ShipError::NoMemory))?;
-    let mut dock = Dock::open(heap, &mut memory, options.frame, options.credit).map_err(|e| fail(
-        rt, e,
-    ))?;
+    let opened = Dock::open(heap, &mut memory, options.frame, options.credit);
+    let mut dock = opened.map_err(|e| fail(rt, e))?;
     let mut totals = Totals::default();
     let shipped = ship_all(rt, options, &mut dock, &mut totals);
     println!(rt; "{totals}")?;

@@ -17,6 +17,6 @@ Named text None = (s : Shelf) → text ≢ name_of s
 Named text (Some s) = text ≡ name_of s
 
 -- each shelf's name reads as it, and no other text reads as a shelf
-pub record Reads (text : List ℕ) (r : Result Shelf UnknownShelf) : Type 0 where
+pub record ReadsShelf (text : List ℕ) (r : Result Shelf UnknownShelf) : Type 0 where
   pub back : (s : Shelf) → text ≡ name_of s → r ≡ Ok s
   pub only : Named text (result_ok r)

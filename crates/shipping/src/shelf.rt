@@ -1,6 +1,6 @@
 // The shelves of the archive.
 ghost use Rattle.std.specs.Prelude.{Some};
-ghost use Rattle.shipping.specs.Shelves.{name_of, Reads};
+ghost use Rattle.shipping.specs.Shelves.{name_of, ReadsShelf};
 
 use std::fmt;
 use std::str::FromStr;
@@ -35,7 +35,7 @@ pub struct UnknownShelf;
 impl FromStr for Shelf {
     type Err = UnknownShelf;
 
-    ghost from_str_gives = { Reads };
+    ghost from_str_gives = { ReadsShelf };
 
     fn from_str(name: &str) -> Result<Shelf, UnknownShelf> {
         match name {
