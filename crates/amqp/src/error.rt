@@ -1,4 +1,5 @@
-// What a call refuses. Each refusal has a number, by which docs/RULES.md and the programs name it.
+// What a call refuses. Each refusal has a number, by which docs/RULES.md and the programs name it: its case's discriminant, which
+// only a method of its own enum can read, or a match where a case carries a value and has none.
 ghost use Rattle.std.specs.Prelude.{◌≡◌};
 ghost use Rattle.amqp.specs.Refusals.{make_number, state_number, sink_number, send_number, attach_number, ticket_number, memory_number, of_sink};
 

@@ -9,6 +9,7 @@ pub enum ReadError {
 }
 
 impl ReadError {
+    // By a match, since a case that carries a value has no discriminant.
     pub fn number(self) -> u8
         ensures { result ≡ read_number self }
     {

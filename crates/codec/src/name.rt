@@ -1,4 +1,4 @@
-// The names of error conditions (Part 2, 2.8.15).
+// The names of error conditions (Part 2, 2.8.15): by a match, since a derive would write the variants' own names.
 ghost use Rattle.std.specs.Prelude.{◌≡◌, ◌≤◌, length};
 ghost use Rattle.codec.specs.Values.{condition_name};
 

@@ -42,6 +42,7 @@ fn described_error<F: Form>(condition: AmqpError) -> Scratch
     body.close(Descriptor::Error)
 }
 
+// The two lines that append it stand below for a state again: a function for them would be longer.
 impl Field for AmqpError {
     ghost value = { λ _ k. error_value k };
 

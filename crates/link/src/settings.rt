@@ -15,7 +15,7 @@ pub struct Settings {
 }
 
 impl Settings {
-    // Whether a delivery goes out settled, by the mode, or where that leaves it open, as asked.
+    // Whether a delivery goes out settled, by the mode, or where that leaves it open, as asked: three modes, three answers.
     pub fn is_settled_on_send(&self, asked: Option<bool>) -> bool
         ensures { result ≡ settles self.now.snd_settle_mode asked }
     {

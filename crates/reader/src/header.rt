@@ -72,6 +72,7 @@ fn header<P: Parse>(input: &mut Input<'_>) -> Result<Header, ReadError>
     ensures { Reads (header_at P.Parse.reading) input.old input.new result }
 {
     let start = input.at;
+    // Codes stay numbers (docs/DECISIONS.md, Forms).
     match described::<P>(input)? {
         0x14 => transfer::<P>(input),
         0x15 => disposition::<P>(input),

@@ -52,6 +52,7 @@ fn ship_all(
                 println!(rt; "{shelf} {path}: {len} bytes, {refused}")?;
                 shipped = Err(Failed);
             }
+            // Beside an arm that goes on, a `?` finds no place.
             Err(e) => return Err(fail(rt, e)),
         }
     }

@@ -31,6 +31,7 @@ pub fn split<S: Sink>(
         header: Header::Transfer(Transfer { more, ..*transfer }),
         payload: first,
     })?;
+    // Counted, since all but the last have `more` set.
     for (i, part) in parts.enumerate() {
         let more = i + 1 < count;
         let continuation = Transfer {

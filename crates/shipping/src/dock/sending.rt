@@ -75,7 +75,8 @@ impl<'a> Dock<'a> {
         loop {
             match self.try_send(encoder, message) {
                 Ok(settlement) => return Ok(settlement),
-                // Compared and not matched, so that the proof knows of the error below that it is another.
+                // Compared and not matched, so that the proof knows of the error below that it is another; and no `?`, which would
+                // leave this arm out.
                 Err(e) if e == SendError::SinkFull => self.make_room()?,
                 Err(e) => return Err(e.into()),
             }
