@@ -35,6 +35,7 @@ impl<'a> Dock<'a> {
     pub(super) fn grant(&mut self)
         ensures link { self.new.link ≡ step self.old.link (Flow (granting self.old.credit self.old.archive)) }
         ensures queue { self.new.queue ≡ self.old.queue }
+        ensures credit { self.new.credit ≡ self.old.credit }
     {
         let flow = self.archive.grant(self.credit);
         let _ = self.link.flow(&flow);
@@ -44,6 +45,7 @@ impl<'a> Dock<'a> {
     fn make_room(&mut self) -> Result<(), OutOfMemory>
         ensures link { self.new.link ≡ self.old.link }
         ensures queue { OnOk result (self.new.queue ≡ roomier self.old.queue) }
+        ensures credit { self.new.credit ≡ self.old.credit }
     {
         let before = self.queue.vacancy();
         unload(&mut self.queue, &mut self.out, &mut self.archive)?;
@@ -58,7 +60,8 @@ impl<'a> Dock<'a> {
     }
 
     fn try_send<E: Encoder>(&mut self, encoder: &E, message: &[u8]) -> Result<Settlement, SendError>
-        ensures { Sends self.old.link (carrier (E.bytes encoder.now) message.now self.old.queue) (plain (length message.now)) result self.new.link self.new.queue }
+        ensures sends { Sends self.old.link (carrier (E.bytes encoder.now) message.now self.old.queue) (plain (length message.now)) result self.new.link self.new.queue }
+        ensures credit { self.new.credit ≡ self.old.credit }
     {
         self.link
             .send(&mut self.queue, encoder, message, &plain(message.len()))
@@ -70,7 +73,8 @@ impl<'a> Dock<'a> {
         encoder: &E,
         message: &[u8],
     ) -> Result<Settlement, ShipError>
-        ensures { Sending self.old.link (E.bytes encoder.now) message.now self.old.queue result self.new.link self.new.queue }
+        ensures sends { Sending self.old.link (E.bytes encoder.now) message.now self.old.queue result self.new.link self.new.queue }
+        ensures credit { self.new.credit ≡ self.old.credit }
     {
         loop {
             match self.try_send(encoder, message) {
@@ -89,7 +93,8 @@ impl<'a> Dock<'a> {
         encoder: &E,
         message: &[u8],
     ) -> Result<Settlement, ShipError>
-        ensures { SendingAgain self.old.link (E.bytes encoder.now) message.now self.old.queue result self.new.link self.new.queue }
+        ensures sends { SendingAgain self.old.link (E.bytes encoder.now) message.now self.old.queue result self.new.link self.new.queue }
+        ensures credit { self.new.credit ≡ self.old.credit }
     {
         match self.send_in_room(encoder, message) {
             Err(ShipError::Refused(SendError::NoCredit)) => {

@@ -18,6 +18,7 @@ impl<'a> Dock<'a> {
     fn take_in(&mut self, message: &[u8]) -> Result<usize, OutOfMemory>
         ensures queue { IfOk result (λ n. (self.new.queue ≡ emptied self.old.queue) × (n ≡ length self.old.queue.waiting)) }
         ensures link { OnOk result (Answered (took_all self.old.queue.waiting self.old.archive) message.now self.old.link self.new.link) }
+        ensures credit { self.new.credit ≡ self.old.credit }
     {
         let before = self.queue.vacancy();
         unload(&mut self.queue, &mut self.out, &mut self.archive)?;
@@ -29,7 +30,8 @@ impl<'a> Dock<'a> {
 
     // The ticket is collected on every way out.
     fn settle(&mut self, ticket: Ticket, message: &[u8]) -> Result<Shipment, ShipError>
-        ensures { Settling self.old.link self.old.queue self.old.archive message.now ticket.number result self.new.link self.new.queue }
+        ensures settles { Settling self.old.link self.old.queue self.old.archive message.now ticket.number result self.new.link self.new.queue }
+        ensures credit { self.new.credit ≡ self.old.credit }
     {
         let number = ticket.number();
         let taken = self.take_in(message);
@@ -46,7 +48,8 @@ impl<'a> Dock<'a> {
         encoder: &E,
         message: &[u8],
     ) -> Result<Shipment, ShipError>
-        ensures { AtRest self.old.link self.old.queue → Shipping self.old.link (E.bytes encoder.now) message.now result self.new.link self.new.queue }
+        ensures ships { AtRest self.old.link self.old.queue → Shipping self.old.link (E.bytes encoder.now) message.now result self.new.link self.new.queue }
+        ensures credit { self.new.credit ≡ self.old.credit }
     {
         match self.send(encoder, message)? {
             Settlement::Unsettled(ticket) => self.settle(ticket, message),
@@ -56,7 +59,8 @@ impl<'a> Dock<'a> {
 
     // Ships a file. Where no delivery is under way before, it is accepted, or refused and nothing is under way.
     pub fn ship<E: Encoder>(&mut self, encoder: &E, file: &[u8]) -> Result<Shipment, ShipError>
-        ensures { AtRest self.old.link self.old.queue → Shipping self.old.link (E.bytes encoder.now) (data_section file.now) result self.new.link self.new.queue }
+        ensures ships { AtRest self.old.link self.old.queue → Shipping self.old.link (E.bytes encoder.now) (data_section file.now) result self.new.link self.new.queue }
+        ensures credit { self.new.credit ≡ self.old.credit }
     {
         let message = data_section(self.heap, file)?;
         self.ship_message(encoder, message.as_slice())

@@ -4,8 +4,8 @@ use Rattle.shipping.specs.Docks.{Gone}
 use Rattle.shipping.proofs.Shipments.{shipped}
 use Rattle.shipping.proofs.dock.Dock.ship_message.Goals as goal
 
-pub returns-in-Unsettled : goal.returns-in-Unsettled
-returns-in-Unsettled g c rest =
-    let sent = c.in_ok-ticket.ensures in
+pub returns-in-Unsettled-clause-ships : goal.returns-in-Unsettled-clause-ships
+returns-in-Unsettled-clause-ships g c rest =
+    let sent = c.in_ok-ticket.ensures.sends in
     let after = c.send.new.self in
-    shipped c.args.self.now.link sent.0 (g.E.Encoder.bytes c.args.encoder.now) c.args.message.now c.args.self.now.queue after.queue c.settle.new.self.queue c.in-Unsettled.ticket after.archive c.settle.result after.link c.settle.new.self.link rest sent.1 (subst (λ (x : Settlement). Gone sent.0 (g.E.Encoder.bytes c.args.encoder.now) c.args.message.now c.args.self.now.queue x after.link after.queue) c.in-Unsettled.is sent.2) c.settle.ensures
+    shipped c.args.self.now.link sent.0 (g.E.Encoder.bytes c.args.encoder.now) c.args.message.now c.args.self.now.queue after.queue c.settle.new.self.queue c.in-Unsettled.ticket after.archive c.settle.result after.link c.settle.new.self.link rest sent.1 (subst (λ (x : Settlement). Gone sent.0 (g.E.Encoder.bytes c.args.encoder.now) c.args.message.now c.args.self.now.queue x after.link after.queue) c.in-Unsettled.is sent.2) c.settle.ensures.settles
