@@ -23,7 +23,9 @@ use Rattle.link.specs.Settings.{exceeds}
 use Rattle.link.specs.Views.{View}
 use Rattle.link.proofs.Rows.{first_alone, row_off, gated_err}
 use Rattle.sender.specs.Sends.{Sends}
-use Rattle.shipping.specs.Docks.{roomier, plain}
+use Rattle.shipping.specs.Docks.{doubled, roomier, Roomed, plain}
+use Rattle.shipping.specs.Unloading.{emptied}
+use Rattle.queue.specs.Queues.{empty}
 use Rattle.shipping.proofs.Sends.{all_of, stayed}
 
 abbrev Other : Option SendError → Type 0
@@ -78,6 +80,10 @@ too_few None true few h = let z : ◌≡◌ {A = ℕ} 0 1 = cc in absurd (omega 
 too_few None false true h = refl
 too_few None false false h = let z : ◌≡◌ {A = ℕ} 0 1 = cc in absurd (omega arith)
 
+not_stopped : (stop : Option SessionStopReason) (wide few : Bool) → refused stop wide few ≡ Some sink.SinkFull → stop ≡ None
+not_stopped (Some r) wide few h = let z : ◌≡◌ {A = ℕ} 0 1 = cc in absurd (omega arith)
+not_stopped None wide few h = refl
+
 in_pool : (p : Place) (n : ℕ) → outside p n ≡ false → n ≤ 67108864
 in_pool p n h = grind (arith, nat_tests)
 
@@ -114,6 +120,17 @@ none_left s false e = simp e
 pub roomier_none : (s : Model) → (roomier s).waiting ≡ []
 roomier_none s = none_left s (eqb (length s.waiting) 0) refl
 
+one_of : (s x y : Model) (b : Bool) → Roomed s x → Roomed s y → Roomed s (cond b x y)
+one_of s x y true h k = h
+one_of s x y false h k = k
+
+-- a queue that is not stopped stays as it is but for its room
+pub room_made : (s : Model) → s.stopped ≡ None → Roomed s (roomier s)
+room_made s running =
+    one_of s (empty (doubled s.vacancy) s.widest) (emptied s) (eqb (length s.waiting) 0)
+    (record { widest = refl; stopped = sym running; waiting = λ _. refl })
+    (record { widest = refl; stopped = refl; waiting = λ _. refl })
+
 -- a queue that had no room for a message comes nearer to it
 pub fed : (v : View) (bytes : Header → List ℕ) (msg : List ℕ) (s : Model) (e : SendError) (w : View) (t t' : Model) → e ≡ send.SinkFull → Sends v (carrier bytes msg s) (plain (length msg)) (Err e) w t → t' ≡ roomier t → hunger (length msg) t' < hunger (length msg) s
 fed v bytes msg s e w t t' full h r =
@@ -124,3 +141,12 @@ fed v bytes msg s e w t t' full h r =
     let kept = (stayed v c m e w t h).1 in
     let few : s.vacancy < count_of (length msg) (max 1 (share_for v c m)) = rw (all_of msg) at lack.0 in
     rw (r, kept) (less_hungry (length msg) s (max 1 (share_for v c m)) few lack.1)
+
+-- a stopped queue is refused for that, and not for want of room
+pub was_running : (v : View) (bytes : Header → List ℕ) (msg : List ℕ) (s : Model) (e : SendError) (w : View) (t : Model) → e ≡ send.SinkFull → Sends v (carrier bytes msg s) (plain (length msg)) (Err e) w t → s.stopped ≡ None
+was_running v bytes msg s e w t full h =
+    let c = carrier bytes msg s in
+    let m = plain (length msg) in
+    let some = gated_err (send_refusal v c m) (sent_answer v m) e h.answer in
+    let cause = past (own_rows v c m) _ (own_others v c m) (some ∙ ap (λ (x : SendError). Some x) full) in
+    not_stopped s.stopped _ _ (from_sink (split_fault s (payload c m) (max 1 (share_for v c m))) cause.1)

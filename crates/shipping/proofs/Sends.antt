@@ -1,9 +1,10 @@
 -- What a send of the link means to the dock.
-use Rattle.std.proofs.Common.{◌≡◌, ℕ, max, List, [], ◌++◌, length, take, drop, Some, None, Ok, Err, Option, Result, refl, ap, ◌∙◌, subst, arith}
+use Rattle.std.proofs.Common.{◌≡◌, ℕ, max, inl, List, [], ◌++◌, length, take, drop, Some, None, Ok, Err, Option, Result, refl, sym, ap, ◌∙◌, subst, arith}
 use Rattle.std.specs.Option.{unwrap_or}
 use Rattle.std.proofs.lemmas.List.FromFn.{length-map-range_with_len}
 use Rattle.std.proofs.lemmas.List.{take_all}
 use Rattle.amqp.specs.declared.error.SendError.{SendError}
+use Rattle.amqp.specs.declared.error.SendError.TheVariants.{NoCredit, SinkFull}
 use Rattle.amqp.specs.declared.header.Header.{Header}
 use Rattle.sink.specs.Cuts.{frame_at}
 use Rattle.sink.specs.Frames.{Frame, Model, Grown, After}
@@ -20,7 +21,7 @@ use Rattle.sender.specs.Sends.{Sends, answered}
 use Rattle.shipping.specs.declared.report.ShipError.{ShipError}
 use Rattle.shipping.specs.declared.report.ShipError.TheVariants.{Refused, NoMemory, Link}
 use Rattle.shipping.specs.Archives.{Intake, took_all, granting}
-use Rattle.shipping.specs.Docks.{plain, Gone, Sending, Alike}
+use Rattle.shipping.specs.Docks.{plain, Gone, Roomed, Unsent, Sending, Alike, SendingAgain}
 use Rattle.shipping.proofs.Frames.{took_append, read_whole}
 
 -- an answer that is no error was not refused
@@ -76,10 +77,33 @@ stayed v c m e w t h =
       unchanged (send_refusal v c m) e c.sink t (sent_frames v c m) (frames_needed (share_for v c m) (payload c m)) some h.sink,
     )
 
--- what was empty stays so while the queue gets room
-pub sending_later : (u : View) (bytes : Header → List ℕ) (msg : List ℕ) (s s' : Model) (r : Result Settlement ShipError) (w : View) (t : Model) → (s.waiting ≡ [] → s'.waiting ≡ []) → Sending u bytes msg s' r w t → Sending u bytes msg s r w t
-sending_later u bytes msg s s' (Ok x) w t k h = record { answer = h.answer; link = h.link; tag = h.tag; whole = h.whole; frames = λ n. h.frames (k n) }
-sending_later u bytes msg s s' (Err (Refused e)) w t k h = (h.0, h.1, λ n. h.2 (k n))
+-- the same, where the link waited for room
+pub unsent_later : (v v' : View) (bytes : Header → List ℕ) (msg : List ℕ) (s s' : Model) (e : SendError) (w : View) (t : Model) → v' ≡ v → Roomed s s' → (e ≡ SinkFull → ⊥) → Sends v' (carrier bytes msg s') (plain (length msg)) (Err e) w t → (w ≡ v) × Unsent v bytes msg s e t
+unsent_later v v' bytes msg s s' e w t same room other h =
+    let c = carrier bytes msg s' in
+    let m = plain (length msg) in
+    let kept = stayed v' c m e w t h in
+    let some = gated_err (send_refusal v' c m) (sent_answer v' m) e h.answer in (
+      kept.0 ∙ same,
+      record {
+        queue = record {
+          widest = ap (λ (x : Model). x.widest) kept.1 ∙ room.widest;
+          stopped = ap (λ (x : Model). x.stopped) kept.1 ∙ room.stopped;
+          waiting = λ n. ap (λ (x : Model). x.waiting) kept.1 ∙ room.waiting n;
+        };
+        refusal = ap (λ (x : Model). send_refusal v (carrier bytes msg x) m) kept.1 ∙ ap (λ (x : View). send_refusal x c m) (sym same) ∙ some;
+        room = other;
+      },
+    )
+
+roomed_on : (s s' t : Model) → Roomed s s' → Roomed s' t → Roomed s t
+roomed_on s s' t a b = record { widest = b.widest ∙ a.widest; stopped = b.stopped ∙ a.stopped; waiting = λ n. b.waiting (a.waiting n) }
+
+-- what holds of a queue with other room holds of the queue before
+pub sending_later : (u : View) (bytes : Header → List ℕ) (msg : List ℕ) (s s' : Model) (r : Result Settlement ShipError) (w : View) (t : Model) → Roomed s s' → Sending u bytes msg s' r w t → Sending u bytes msg s r w t
+sending_later u bytes msg s s' (Ok x) w t k h = record { answer = h.answer; link = h.link; tag = h.tag; whole = h.whole; frames = λ n. h.frames (k.waiting n) }
+sending_later u bytes msg s s' (Err (Refused e)) w t k h =
+    (h.0, record { queue = roomed_on s s' t k h.1.queue; refusal = h.1.refusal; room = h.1.room })
 sending_later u bytes msg s s' (Err NoMemory) w t k h = tt
 sending_later u bytes msg s s' (Err Link) w t k h = h
 
@@ -87,8 +111,8 @@ pub alike : (v : View) → Alike v v
 alike v = record { output = refl; settings = refl; number = refl; held = refl; seats = refl }
 
 -- a flow without a drain changes only the credit
-pub regranted : (v w : View) (credit : ℕ) (a : Intake) → w ≡ step v (Flow (granting credit a)) → Alike v w
-regranted v w credit a e =
+pub alike_regranted : (v w : View) (credit : ℕ) (a : Intake) → w ≡ step v (Flow (granting credit a)) → Alike v w
+alike_regranted v w credit a e =
     record {
       output = ap (λ (x : View). x.output) e;
       settings = ap (λ (x : View). x.settings) e;
@@ -97,7 +121,15 @@ regranted v w credit a e =
       seats = ap (λ (x : View). x.seats) e;
     }
 
+-- a link that had credit
+pub first_try : (v : View) (credit : ℕ) (a : Intake) (bytes : Header → List ℕ) (msg : List ℕ) (s : Model) (r : Result Settlement ShipError) (w : View) (t : Model) → (r ≡ Err (Refused NoCredit) → ⊥) → Sending v bytes msg s r w t → SendingAgain v credit a bytes msg s r w t
+first_try v credit a bytes msg s r w t other h =
+    record { u = v; alike = alike v; intake = a; seen = λ _. refl; granted = inl refl; anew = λ n. absurd (other n); sending = h }
+
+pub first_refused : (v : View) (credit : ℕ) (a : Intake) (bytes : Header → List ℕ) (msg : List ℕ) (s : Model) (e : ShipError) (w : View) (t : Model) → (e ≡ Refused NoCredit → ⊥) → Sending v bytes msg s (Err e) w t → SendingAgain v credit a bytes msg s (Err e) w t
+first_refused v credit a bytes msg s e w t other h = first_try v credit a bytes msg s (Err e) w t (λ n. other (cc)) h
+
 -- a refusal left the link as it was
-pub kept_back : (v : View) (bytes : Header → List ℕ) (msg : List ℕ) (s : Model) (e : ShipError) (x : SendError) (w : View) (t : Model) → e ≡ Refused x → Sending v bytes msg s (Err e) w t → (w ≡ v) × (s.waiting ≡ [] → t.waiting ≡ [])
+pub kept_back : (v : View) (bytes : Header → List ℕ) (msg : List ℕ) (s : Model) (e : ShipError) (x : SendError) (w : View) (t : Model) → e ≡ Refused x → Sending v bytes msg s (Err e) w t → (w ≡ v) × Roomed s t
 kept_back v bytes msg s e x w t is h =
-    let k = subst (λ (y : ShipError). Sending v bytes msg s (Err y) w t) is h in (k.0, k.2)
+    let k = subst (λ (y : ShipError). Sending v bytes msg s (Err y) w t) is h in (k.0, k.1.queue)

@@ -1,5 +1,6 @@
 -- What a message that was sent from rest comes to.
-use Rattle.std.proofs.Common.{◌≡◌, ℕ, true, List, [], length, Some, Ok, Err, Option, Result, ap, ◌∙◌, arith}
+use Rattle.std.proofs.Common.{◌≡◌, ℕ, true, List, [], length, ◌⊎◌, inl, inr, Some, Ok, Err, Option, Result, sym, ap, ◌∙◌, subst, arith}
+use Rattle.amqp.specs.declared.error.SendError.{SendError}
 use Rattle.amqp.specs.declared.error.TicketError.{TicketError}
 use Rattle.amqp.specs.declared.header.Header.{Header}
 use Rattle.amqp.specs.declared.mode.SenderSettleMode.TheVariants.{Unsettled as never}
@@ -19,7 +20,7 @@ use Rattle.shipping.specs.declared.report.ShipError.{ShipError}
 use Rattle.shipping.specs.declared.report.ShipError.TheVariants.{Refused, NoMemory, Link}
 use Rattle.shipping.specs.declared.report.Shipment.{Shipment}
 use Rattle.shipping.specs.Archives.{Intake}
-use Rattle.shipping.specs.Docks.{plain, frames_for, Gone, Alike, Settled, Settling, AtRest, Shipping}
+use Rattle.shipping.specs.Docks.{plain, frames_for, Gone, Alike, regranted, SendingAgain, Settled, Settling, Unsent, AtRest, Shipping}
 use Rattle.shipping.proofs.Rounds.{ended, round, tells_accepted, table_empty, seats_free, settings_kept}
 
 -- a link that is like one at rest but for its credit
@@ -73,8 +74,8 @@ rests_again u s len w t t' h e n =
       waiting = n;
     }
 
-from_rest : (u : View) (bytes : Header → List ℕ) (msg : List ℕ) (s t t' : Model) (x : Ticket) (a : Intake) (r : Result Shipment ShipError) (w w' : View) → AtRest u s → Gone u bytes msg s (Unsettled x) w t → Settling w t a msg x.number r w' t' → Shipping u bytes msg r w' t'
-from_rest u bytes msg s t t' x a (Ok p) w w' rest gone h =
+from_rest : (u : View) (credit : ℕ) (b : Intake) (bytes : Header → List ℕ) (msg : List ℕ) (s t t' : Model) (x : Ticket) (a : Intake) (r : Result Shipment ShipError) (w w' : View) → AtRest u s → Gone u bytes msg s (Unsettled x) w t → Settling w t a msg x.number r w' t' → Shipping u credit b bytes msg s r w' t'
+from_rest u credit b bytes msg s t t' x a (Ok p) w w' rest gone h =
     let told = told_is u bytes msg s t t' x a (Ok p.progress) w w' rest gone h.0 in
     let link = link_is u bytes msg s t t' x a (Ok p.progress) w w' rest gone h.0 in (
       record {
@@ -84,18 +85,40 @@ from_rest u bytes msg s t t' x a (Ok p) w w' rest gone h =
       },
       rests_again u s (length msg) w' t t' rest link (ap (λ (m : Model). m.waiting) h.0.queue),
     )
-from_rest u bytes msg s t t' x a (Err (Refused e)) w w' rest gone h = absurd h
-from_rest u bytes msg s t t' x a (Err NoMemory) w w' rest gone h = tt
-from_rest u bytes msg s t t' x a (Err Link) w w' rest gone h =
+from_rest u credit b bytes msg s t t' x a (Err (Refused e)) w w' rest gone h = absurd h
+from_rest u credit b bytes msg s t t' x a (Err NoMemory) w w' rest gone h = tt
+from_rest u credit b bytes msg s t t' x a (Err Link) w w' rest gone h =
     let told = told_is u bytes msg s t t' x a _ w w' rest gone h in let z : ◌≡◌ {A = ℕ} 0 1 = cc in omega arith
 
-alike_too : (v u : View) (bytes : Header → List ℕ) (msg : List ℕ) (r : Result Shipment ShipError) (w : View) (t : Model) → Alike v u → Shipping u bytes msg r w t → Shipping v bytes msg r w t
-alike_too v u bytes msg (Ok p) w t a h =
-    (record { accepted = h.0.accepted; ticket = h.0.ticket ∙ a.number; frames = h.0.frames ∙ frames_alike v u bytes msg a }, h.1)
-alike_too v u bytes msg (Err (Refused e)) w t a h = h
-alike_too v u bytes msg (Err NoMemory) w t a h = tt
-alike_too v u bytes msg (Err Link) w t a h = h
+alike_too : (v u : View) (credit : ℕ) (b : Intake) (bytes : Header → List ℕ) (msg : List ℕ) (s t t' : Model) (a : Intake) (number : ℕ) (r : Result Shipment ShipError) (w w' : View) → Alike v u → Settling w t a msg number r w' t' → Shipping u credit b bytes msg s r w' t' → Shipping v credit b bytes msg s r w' t'
+alike_too v u credit b bytes msg s t t' a number (Ok p) w w' like g h =
+    (record { accepted = h.0.accepted; ticket = h.0.ticket ∙ like.number; frames = h.0.frames ∙ frames_alike v u bytes msg like }, h.1)
+alike_too v u credit b bytes msg s t t' a number (Err (Refused e)) w w' like g h = absurd g
+alike_too v u credit b bytes msg s t t' a number (Err NoMemory) w w' like g h = tt
+alike_too v u credit b bytes msg s t t' a number (Err Link) w w' like g h = h
 
-pub shipped : (v u : View) (bytes : Header → List ℕ) (msg : List ℕ) (s t t' : Model) (x : Ticket) (a : Intake) (r : Result Shipment ShipError) (w w' : View) → AtRest v s → Alike v u → Gone u bytes msg s (Unsettled x) w t → Settling w t a msg x.number r w' t' → Shipping v bytes msg r w' t'
-shipped v u bytes msg s t t' x a r w w' rest alike gone h =
-    alike_too v u bytes msg r w' t' alike (from_rest u bytes msg s t t' x a r w w' (rests_alike v u s rest alike) gone h)
+pub shipped : (v u : View) (credit : ℕ) (b : Intake) (bytes : Header → List ℕ) (msg : List ℕ) (s t t' : Model) (x : Ticket) (a : Intake) (r : Result Shipment ShipError) (w w' : View) → AtRest v s → Alike v u → Gone u bytes msg s (Unsettled x) w t → Settling w t a msg x.number r w' t' → Shipping v credit b bytes msg s r w' t'
+shipped v u credit b bytes msg s t t' x a r w w' rest like gone h =
+    alike_too v u credit b bytes msg s t t' a x.number r w w' like h (from_rest u credit b bytes msg s t t' x a r w w' (rests_alike v u s rest like) gone h)
+
+either_way : (v u w : View) (credit : ℕ) (i a : Intake) → w ≡ u → i ≡ a → (u ≡ v) ⊎ (u ≡ regranted v credit i) → (w ≡ v) ⊎ (w ≡ regranted v credit a)
+either_way v u w credit i a e k (inl h) = inl (e ∙ h)
+either_way v u w credit i a e k (inr h) = inr (e ∙ h ∙ ap (regranted v credit) k)
+
+-- a message that was not sent
+pub unshipped : (v : View) (credit : ℕ) (a : Intake) (bytes : Header → List ℕ) (msg : List ℕ) (s : Model) (e : ShipError) (w : View) (t : Model) → AtRest v s → SendingAgain v credit a bytes msg s (Err e) w t → Shipping v credit a bytes msg s (Err e) w t
+unshipped v credit a bytes msg s (Refused e) w t rest h =
+    let same = h.sending.0 in
+    let like = subst (λ (x : View). Alike v x) (sym same) h.alike in
+    let still = rests_alike v w s rest like in
+    let seen = h.seen rest.waiting in (
+      record {
+        alike = like;
+        granted = either_way v h.u w credit h.intake a same seen h.granted;
+        anew = λ n. same ∙ h.anew (ap (λ (x : SendError). Err (Refused x)) n) ∙ ap (regranted v credit) seen;
+        unsent = subst (λ (x : View). Unsent x bytes msg s e t) (sym same) h.sending.1;
+      },
+      record { mode = still.mode; table = still.table; spare = still.spare; seats = still.seats; waiting = h.sending.1.queue.waiting rest.waiting },
+    )
+unshipped v credit a bytes msg s NoMemory w t rest h = tt
+unshipped v credit a bytes msg s Link w t rest h = absurd h.sending

@@ -1,6 +1,7 @@
 -- A dock: its link and its queue, how a message goes out by them, and what becomes of it.
-use Rattle.std.specs.Prelude.{◌≡◌, ℕ, suc, ◌*◌, min, max, true, false, cond, List, [], length, replicate, Some, None, Ok, Err, Option, Result, ◌==◌, ◌≢◌}
-use Rattle.amqp.specs.declared.error.SendError.TheVariants.{SinkFull}
+use Rattle.std.specs.Prelude.{◌≡◌, ℕ, suc, ◌*◌, ◌^◌, ◌≤◌, ◌⊎◌, min, max, true, false, cond, List, [], length, replicate, Some, None, Ok, Err, Option, Result, ◌==◌, ◌≢◌}
+use Rattle.amqp.specs.declared.error.SendError.{SendError}
+use Rattle.amqp.specs.declared.error.SendError.TheVariants.{NoCredit, OutsidePool, SinkFull}
 use Rattle.amqp.specs.declared.error.TicketError.{TicketError}
 use Rattle.amqp.specs.declared.error.TicketError.TheVariants.{NoSeat}
 use Rattle.amqp.specs.declared.header.Header.{Header}
@@ -14,9 +15,9 @@ use Rattle.link.specs.declared.delivery.Outcome.{Outcome}
 use Rattle.link.specs.declared.delivery.Outcome.TheVariants.{State}
 use Rattle.link.specs.declared.delivery.Sendable.{Sendable}
 use Rattle.link.specs.declared.seat.Seat.TheVariants.{Free}
-use Rattle.link.specs.Calls.{Disposition, Collect, step}
+use Rattle.link.specs.Calls.{Disposition, Collect, Flow, step}
 use Rattle.link.specs.Disposing.{looked}
-use Rattle.link.specs.Sending.{carrier, next_number, next_tag, sent, sent_answer, share_for, frames_needed}
+use Rattle.link.specs.Sending.{carrier, next_number, next_tag, sent, sent_answer, share_for, frames_needed, send_refusal}
 use Rattle.link.specs.Turns.{landed}
 use Rattle.link.specs.Views.{View}
 use Rattle.sender.specs.declared.ticket.Settlement.{Settlement}
@@ -24,7 +25,8 @@ use Rattle.sender.specs.Sends.{answered}
 use Rattle.shipping.specs.declared.report.ShipError.{ShipError}
 use Rattle.shipping.specs.declared.report.ShipError.TheVariants.{Refused, NoMemory, Link}
 use Rattle.shipping.specs.declared.report.Shipment.{Shipment}
-use Rattle.shipping.specs.Archives.{Intake, took_all, Judged}
+use Rattle.shipping.specs.Archives.{Intake, took_all, granting, Judged}
+use Rattle.shipping.specs.Sections.{data_section}
 use Rattle.shipping.specs.Unloading.{emptied}
 
 -- what is known of a dock: its link, the frames that wait, what its archive has taken in, and the credit granted at a time
@@ -63,10 +65,22 @@ pub record Gone (v : View) (bytes : Header → List ℕ) (msg : List ℕ) (s : M
   pub whole : (a : Intake) → (took_all t.waiting a).joined ≡ msg
   pub frames : s.waiting ≡ [] → length t.waiting ≡ frames_for v bytes msg
 
--- what a send came to: a refusal leaves the link as it was, and is never for want of room
+-- the queue `t` is `s` with other room: as wide, stopped or not as before, and nothing waits where nothing did
+pub record Roomed (s t : Model) : Type 0 where
+  pub widest : t.widest ≡ s.widest
+  pub stopped : t.stopped ≡ s.stopped
+  pub waiting : s.waiting ≡ [] → t.waiting ≡ []
+
+-- why a message did not go out: the link `w` and the queue `t`, which was `s`, refuse it, and never for want of room
+pub record Unsent (w : View) (bytes : Header → List ℕ) (msg : List ℕ) (s : Model) (e : SendError) (t : Model) : Type 0 where
+  pub queue : Roomed s t
+  pub refusal : send_refusal w (carrier bytes msg t) (plain (length msg)) ≡ Some e
+  pub room : e ≢ SinkFull
+
+-- what a send came to: a refusal leaves the link as it was, and that refuses the message
 abbrev pub Sending : View → (Header → List ℕ) → (msg : List ℕ) → Model → Result Settlement ShipError → View → Model → Type 0
 Sending v bytes msg s (Ok r) w t = Gone v bytes msg s r w t
-Sending v bytes msg s (Err (Refused e)) w t = (w ≡ v) × (e ≢ SinkFull) × (s.waiting ≡ [] → t.waiting ≡ [])
+Sending v bytes msg s (Err (Refused e)) w t = (w ≡ v) × Unsent v bytes msg s e t
 Sending v bytes msg s (Err NoMemory) w t = Unit {0}
 Sending v bytes msg s (Err Link) w t = ⊥
 
@@ -78,9 +92,21 @@ pub record Alike (v w : View) : Type 0 where
   pub held : w.held ≡ v.held
   pub seats : w.seats ≡ v.seats
 
--- the same, where the archive may have granted credit anew before
-abbrev pub SendingAgain : View → (Header → List ℕ) → (msg : List ℕ) → Model → Result Settlement ShipError → View → Model → Type 0
-SendingAgain v bytes msg s r w t = (u : View) × Alike v u × Sending u bytes msg s r w t
+-- the link where the archive, which has taken in `a`, has granted it this credit anew
+abbrev pub regranted : View → (credit : ℕ) → Intake → View
+regranted v credit a = step v (Flow (granting credit a))
+
+-- the same from link `u`: that is `v`, or where the credit was used up, `v` with this credit granted anew by an archive that had taken in
+-- `a` and what waited
+pub record SendingAgain (v : View) (credit : ℕ) (a : Intake) (bytes : Header → List ℕ) (msg : List ℕ) (s : Model) (r : Result Settlement ShipError) (w : View) (t : Model) : Type 0 where
+  pub u : View
+  pub alike : Alike v u
+  pub intake : Intake
+  pub seen : s.waiting ≡ [] → intake ≡ a
+  pub granted : (u ≡ v) ⊎ (u ≡ regranted v credit intake)
+  -- no refusal is for want of credit before that
+  pub anew : r ≡ Err (Refused NoCredit) → u ≡ regranted v credit intake
+  pub sending : Sending u bytes msg s r w t
 
 -- the archive answers for what it has taken in: by the tag, if it knows one
 pub record Answered (a : Intake) (msg : List ℕ) (v w : View) : Type 0 where
@@ -118,9 +144,29 @@ pub record Shipped (v : View) (bytes : Header → List ℕ) (msg : List ℕ) (s 
   pub ticket : s.ticket ≡ next_number v
   pub frames : s.frames ≡ frames_for v bytes msg
 
--- what shipping a message comes to: all is at rest again, and no refusal is for want of room
-abbrev pub Shipping : View → (Header → List ℕ) → (msg : List ℕ) → Result Shipment ShipError → View → Model → Type 0
-Shipping v bytes msg (Ok s) w t = Shipped v bytes msg s × AtRest w t
-Shipping v bytes msg (Err (Refused e)) w t = (e ≢ SinkFull) × AtRest w t
-Shipping v bytes msg (Err NoMemory) w t = Unit {0}
-Shipping v bytes msg (Err Link) w t = ⊥
+-- from link `v` and queue `s`, whose archive has taken in `a` and grants this credit, a message was refused: the link `w` and the queue
+-- `t` that are left refuse it so. They are as before, but that the link may have been granted credit anew, and the queue may have other room
+pub record TurnedAway (v : View) (credit : ℕ) (a : Intake) (bytes : Header → List ℕ) (msg : List ℕ) (s : Model) (e : SendError) (w : View) (t : Model) : Type 0 where
+  pub alike : Alike v w
+  pub granted : (w ≡ v) ⊎ (w ≡ regranted v credit a)
+  -- no refusal is for want of credit before that
+  pub anew : e ≡ NoCredit → w ≡ regranted v credit a
+  pub unsent : Unsent w bytes msg s e t
+
+-- what shipping a message comes to: all is at rest again, and a refusal is the link's or the queue's
+abbrev pub Shipping : View → (credit : ℕ) → Intake → (Header → List ℕ) → (msg : List ℕ) → Model → Result Shipment ShipError → View → Model → Type 0
+Shipping v credit a bytes msg s (Ok p) w t = Shipped v bytes msg p × AtRest w t
+Shipping v credit a bytes msg s (Err (Refused e)) w t = TurnedAway v credit a bytes msg s e w t × AtRest w t
+Shipping v credit a bytes msg s (Err NoMemory) w t = Unit {0}
+Shipping v credit a bytes msg s (Err Link) w t = ⊥
+
+-- no message holds the file, and nothing has changed
+pub record TooLong (v : View) (file : List ℕ) (s : Model) (r : Result Shipment ShipError) (w : View) (t : Model) : Type 0 where
+  pub length : 2 ^ 32 ≤ length file
+  pub result : r ≡ Err (Refused OutsidePool)
+  pub link : w ≡ v
+  pub queue : t ≡ s
+
+-- what shipping a file comes to: what shipping its section does, unless it is too long for one
+abbrev pub ShippingFile : View → (credit : ℕ) → Intake → (Header → List ℕ) → (file : List ℕ) → Model → Result Shipment ShipError → View → Model → Type 0
+ShippingFile v credit a bytes file s r w t = Shipping v credit a bytes (data_section file) s r w t ⊎ TooLong v file s r w t

@@ -1,9 +1,10 @@
 // Sending a message, however little the queue holds.
-ghost use Rattle.std.specs.Prelude.{◌≡◌, length, OnOk};
+ghost use Rattle.std.specs.Prelude.{◌≡◌, ◌≢◌, length, [], Err, OnOk};
 ghost use Rattle.link.specs.Calls.{Flow, step};
 ghost use Rattle.link.specs.Sending.{carrier};
 ghost use Rattle.sender.specs.Sends.{Sends};
-ghost use Rattle.shipping.specs.Archives.{granting};
+ghost use Rattle.shipping.specs.declared.report.ShipError.TheVariants.{NoMemory};
+ghost use Rattle.shipping.specs.Archives.{took_all, granting};
 ghost use Rattle.shipping.specs.Docks.{roomier, plain, Sending, SendingAgain};
 
 use super::Dock;
@@ -45,6 +46,7 @@ impl<'a> Dock<'a> {
     fn make_room(&mut self) -> Result<(), OutOfMemory>
         ensures link { self.new.link ≡ self.old.link }
         ensures queue { OnOk result (self.new.queue ≡ roomier self.old.queue) }
+        ensures archive { OnOk result (self.new.archive ≡ took_all self.old.queue.waiting self.old.archive) }
         ensures credit { self.new.credit ≡ self.old.credit }
     {
         let before = self.queue.vacancy();
@@ -61,6 +63,7 @@ impl<'a> Dock<'a> {
 
     fn try_send<E: Encoder>(&mut self, encoder: &E, message: &[u8]) -> Result<Settlement, SendError>
         ensures sends { Sends self.old.link (carrier (E.bytes encoder.now) message.now self.old.queue) (plain (length message.now)) result self.new.link self.new.queue }
+        ensures archive { self.new.archive ≡ self.old.archive }
         ensures credit { self.new.credit ≡ self.old.credit }
     {
         self.link
@@ -74,6 +77,7 @@ impl<'a> Dock<'a> {
         message: &[u8],
     ) -> Result<Settlement, ShipError>
         ensures sends { Sending self.old.link (E.bytes encoder.now) message.now self.old.queue result self.new.link self.new.queue }
+        ensures archive { self.old.queue.waiting ≡ [] → result ≢ Err NoMemory → self.new.archive ≡ self.old.archive }
         ensures credit { self.new.credit ≡ self.old.credit }
     {
         loop {
@@ -93,15 +97,17 @@ impl<'a> Dock<'a> {
         encoder: &E,
         message: &[u8],
     ) -> Result<Settlement, ShipError>
-        ensures sends { SendingAgain self.old.link (E.bytes encoder.now) message.now self.old.queue result self.new.link self.new.queue }
+        ensures sends { SendingAgain self.old.link self.old.credit self.old.archive (E.bytes encoder.now) message.now self.old.queue result self.new.link self.new.queue }
         ensures credit { self.new.credit ≡ self.old.credit }
     {
         match self.send_in_room(encoder, message) {
-            Err(ShipError::Refused(SendError::NoCredit)) => {
+            Ok(settlement) => Ok(settlement),
+            // Compared and not matched, so that the proof knows of the error below that it is another.
+            Err(e) if e == ShipError::Refused(SendError::NoCredit) => {
                 self.grant();
                 self.send_in_room(encoder, message)
             }
-            sent => sent,
+            Err(e) => Err(e),
         }
     }
 }

@@ -1,8 +1,7 @@
 // Shipping a file: its message is sent, read and judged at the other end, and the ticket collected.
 ghost use Rattle.std.specs.Prelude.{◌≡◌, length, IfOk, OnOk};
 ghost use Rattle.shipping.specs.Archives.{took_all};
-ghost use Rattle.shipping.specs.Docks.{Answered, Settling, AtRest, Shipping};
-ghost use Rattle.shipping.specs.Sections.{data_section};
+ghost use Rattle.shipping.specs.Docks.{Answered, Settling, AtRest, Shipping, ShippingFile};
 ghost use Rattle.shipping.specs.Unloading.{emptied};
 
 use super::Dock;
@@ -48,7 +47,7 @@ impl<'a> Dock<'a> {
         encoder: &E,
         message: &[u8],
     ) -> Result<Shipment, ShipError>
-        ensures ships { AtRest self.old.link self.old.queue → Shipping self.old.link (E.bytes encoder.now) message.now result self.new.link self.new.queue }
+        ensures ships { AtRest self.old.link self.old.queue → Shipping self.old.link self.old.credit self.old.archive (E.bytes encoder.now) message.now self.old.queue result self.new.link self.new.queue }
         ensures credit { self.new.credit ≡ self.old.credit }
     {
         match self.send(encoder, message)? {
@@ -59,7 +58,7 @@ impl<'a> Dock<'a> {
 
     // Ships a file. Where no delivery is under way before, it is accepted, or refused and nothing is under way.
     pub fn ship<E: Encoder>(&mut self, encoder: &E, file: &[u8]) -> Result<Shipment, ShipError>
-        ensures ships { AtRest self.old.link self.old.queue → Shipping self.old.link (E.bytes encoder.now) (data_section file.now) result self.new.link self.new.queue }
+        ensures ships { AtRest self.old.link self.old.queue → ShippingFile self.old.link self.old.credit self.old.archive (E.bytes encoder.now) file.now self.old.queue result self.new.link self.new.queue }
         ensures credit { self.new.credit ≡ self.old.credit }
     {
         let message = data_section(self.heap, file)?;

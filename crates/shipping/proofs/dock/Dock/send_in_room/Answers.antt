@@ -1,9 +1,10 @@
-use Rattle.std.proofs.Common.{◌≡◌, Bool, true, false, ap, ◌∙◌, rules, tests}
+use Rattle.std.proofs.Common.{◌≡◌, Bool, true, false, List, ap, ◌∙◌, rules, tests}
 use Rattle.std.proofs.lemmas.Bool.{false≢true}
 use Rattle.amqp.specs.declared.error.SendError.TheVariants.{SinkFull}
-use Rattle.sink.specs.Frames.{Model}
-use Rattle.shipping.proofs.Room.{fed, roomier_none}
-use Rattle.shipping.proofs.Sends.{gone_later, stayed}
+use Rattle.sink.specs.Frames.{Frame, Model}
+use Rattle.shipping.specs.Archives.{took_all}
+use Rattle.shipping.proofs.Room.{fed, roomier_none, room_made, was_running}
+use Rattle.shipping.proofs.Sends.{gone_later, stayed, unsent_later}
 use Rattle.shipping.proofs.dock.Dock.send_in_room.Goals as goal
 
 pub loop-settlement-smaller : goal.loop-settlement-smaller
@@ -16,7 +17,18 @@ pub loop-settlement-preserved : goal.loop-settlement-preserved
 loop-settlement-preserved g c =
     let after = c.in_ok-make_room-in-Err.ensures in
     let kept = stayed _ _ _ _ _ _ c.in-Err.ensures.sends in
-    (after.link ∙ kept.0 ∙ c.loop-settlement.invariant.0, after.credit ∙ c.in-Err.ensures.credit ∙ c.loop-settlement.invariant.1, λ e. ap (λ (m : Model). m.waiting) after.queue ∙ roomier_none c.try_send.new.self.queue)
+    let before = c.loop-settlement.invariant in
+    let t = c.if-eq.ensures in
+    let full : c.in-Err.e ≡ SinkFull = search (rules, tests) in
+    let running = ap (λ (m : Model). m.stopped) kept.1 ∙ was_running _ _ _ _ _ _ _ full c.in-Err.ensures.sends in
+    let room = room_made c.try_send.new.self.queue running in (
+      after.link ∙ kept.0 ∙ c.loop-settlement.invariant.0,
+      after.credit ∙ c.in-Err.ensures.credit ∙ c.loop-settlement.invariant.1,
+      λ e. ap (λ (m : Model). m.waiting) after.queue ∙ roomier_none c.try_send.new.self.queue,
+      ap (λ (m : Model). m.widest) after.queue ∙ room.widest ∙ ap (λ (m : Model). m.widest) kept.1 ∙ before.3,
+      ap (λ (m : Model). m.stopped) after.queue ∙ room.stopped ∙ ap (λ (m : Model). m.stopped) kept.1 ∙ before.4,
+      λ e. after.archive ∙ ap (λ (fs : List Frame). took_all fs c.try_send.new.self.archive) (ap (λ (m : Model). m.waiting) kept.1 ∙ before.2 e) ∙ c.in-Err.ensures.archive ∙ before.5 e,
+    )
 
 pub returns-in-Ok-clause-sends : goal.returns-in-Ok-clause-sends
 returns-in-Ok-clause-sends g c =
@@ -24,6 +36,6 @@ returns-in-Ok-clause-sends g c =
 
 pub returns-in-Err-2-clause-sends : goal.returns-in-Err-2-clause-sends
 returns-in-Err-2-clause-sends g c =
-    let kept = stayed _ _ _ _ _ _ c.in-Err.ensures.sends in
+    let before = c.loop-settlement.invariant in
     let other : c.in-Err.e ≡ SinkFull → ⊥ = λ e. (let t : ◌≡◌ {A = Bool} false true = rw e at c.if-eq.ensures in false≢true t) in
-    rw c.into.ensures (kept.0 ∙ c.loop-settlement.invariant.0, other, λ e. ap (λ (m : Model). m.waiting) kept.1 ∙ c.loop-settlement.invariant.2 e)
+    rw c.into.ensures (unsent_later _ c.loop-settlement.self.link _ _ _ c.loop-settlement.self.queue _ _ _ before.0 (record { widest = before.3; stopped = before.4; waiting = before.2 }) other c.in-Err.ensures.sends)
