@@ -14,6 +14,7 @@ use Rattle.amqp.specs.declared.stop.SessionStopReason.{SessionStopReason}
 use Rattle.amqp.specs.Refusals.{of_sink, send_number}
 use Rattle.sink.specs.Cuts.{count_of, split_fault}
 use Rattle.sink.specs.Frames.{Model, refused}
+use Rattle.queue.specs.Queues.{empty}
 use Rattle.unsettled.specs.declared.message.Place.{Place}
 use Rattle.unsettled.specs.Messages.{outside}
 use Rattle.link.specs.declared.delivery.Sendable.{Sendable}
@@ -25,7 +26,6 @@ use Rattle.link.proofs.Rows.{first_alone, row_off, gated_err}
 use Rattle.sender.specs.Sends.{Sends}
 use Rattle.shipping.specs.Docks.{doubled, roomier, Roomed, plain}
 use Rattle.shipping.specs.Unloading.{emptied}
-use Rattle.queue.specs.Queues.{empty}
 use Rattle.shipping.proofs.Sends.{all_of, stayed}
 
 abbrev Other : Option SendError → Type 0

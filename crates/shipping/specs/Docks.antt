@@ -96,8 +96,8 @@ pub record Alike (v w : View) : Type 0 where
 abbrev pub regranted : View → (credit : ℕ) → Intake → View
 regranted v credit a = step v (Flow (granting credit a))
 
--- the same from link `u`: that is `v`, or where the credit was used up, `v` with this credit granted anew by an archive that had taken in
--- `a` and what waited
+-- the same from link `u`: that is `v`, or `v` with this credit granted anew by an archive that had taken in `intake`, which is `a` where
+-- nothing waited before
 pub record SendingAgain (v : View) (credit : ℕ) (a : Intake) (bytes : Header → List ℕ) (msg : List ℕ) (s : Model) (r : Result Settlement ShipError) (w : View) (t : Model) : Type 0 where
   pub u : View
   pub alike : Alike v u
@@ -162,7 +162,7 @@ Shipping v credit a bytes msg s (Err Link) w t = ⊥
 
 -- no message holds the file, and nothing has changed
 pub record TooLong (v : View) (file : List ℕ) (s : Model) (r : Result Shipment ShipError) (w : View) (t : Model) : Type 0 where
-  pub length : 2 ^ 32 ≤ length file
+  pub long : 2 ^ 32 ≤ length file
   pub result : r ≡ Err (Refused OutsidePool)
   pub link : w ≡ v
   pub queue : t ≡ s
