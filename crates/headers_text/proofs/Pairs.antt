@@ -1,12 +1,12 @@
 -- Pairs of digits and the bytes that they write.
-use Rattle.std.proofs.Common.{◌≡◌, ℕ, zero, suc, ◌+◌, ◌-◌, ◌^◌, ◌*◌, ◌/◌, ◌%◌, ◌<◌, ◌≤◌, false, List, [], ◌∷◌, ◌++◌, length, get_or, take, drop, refl, append_assoc, arith, rules, Fits, w8}
+use Rattle.std.proofs.Common.{◌≡◌, ℕ, zero, suc, ◌⊎◌, inl, inr, sym, ap, ◌∙◌, subst, ◌+◌, ◌-◌, ◌^◌, ◌*◌, ◌/◌, ◌%◌, ◌<◌, ◌≤◌, false, List, [], ◌∷◌, ◌++◌, length, get_or, take, drop, refl, append_assoc, arith, rules, Fits, w8}
 use Rattle.std.specs.Fmt.{padded_integral, format_spec, digits}
 use Rattle.std.specs.List.{concat}
 use Rattle.std.specs.Simd.{first_chunks}
 use Rattle.std.proofs.lemmas.Fmt.{hex_byte}
-use Rattle.std.proofs.lemmas.List.{take_more, take_all, take-append-drop, append-nil, length-take-le, length-drop}
+use Rattle.std.proofs.lemmas.List.{take_more, take_all, take-append-drop, append-nil, length-take-le, length-drop, get_or-take, get_or-drop}
 use Rattle.std.proofs.lemmas.List.Folds.{concat-append}
-use Rattle.headers_text.specs.Hex.{glyph, pairs, Pair, Added}
+use Rattle.headers_text.specs.Hex.{glyph, pairs, Pair, Added, Digit, Undigital}
 
 pub pairs_push : (xs : List ℕ) (v : ℕ) → pairs (xs ++ v ∷ []) ≡ pairs xs ++ (glyph (v / 16) ∷ glyph (v % 16) ∷ [])
 pairs_push [] v = refl
@@ -63,3 +63,22 @@ added_all text old new chunks i are le even a =
     let all = chunks_are_all (length text / 2) text (omega arith) in
     let written = a.written in
     record { bytes = a.bytes; written = cc; after = a.after }
+
+chunk_byte : (k : ℕ) (xs : List ℕ) (i j : ℕ) → i < k → j < 2 → get_or (get_or (first_chunks 2 k xs) i []) j 0 ≡ get_or xs (2 * i + j) 0
+chunk_byte zero xs i j lt two = absurd (omega arith)
+chunk_byte (suc k) xs zero j lt two = get_or-take 2 xs j 0 two ∙ ap (λ n. get_or xs n 0) (omega arith)
+chunk_byte (suc k) xs (suc i) j lt two =
+    chunk_byte k (drop 2 xs) i j (omega arith) two ∙ get_or-drop 2 xs (2 * i + j) 0 ∙ ap (λ n. get_or xs n 0) (omega arith)
+
+-- a chunk's byte that is no digit is one of the text
+faulty : (text : List ℕ) (i j : ℕ) → i < length text / 2 → j < 2 → (Digit (get_or (get_or (first_chunks 2 (length text / 2) text) i []) j 0) → ⊥) → Undigital text
+faulty text i j lt two f =
+    record {
+      place = 2 * i + j;
+      within = omega arith;
+      fault = λ d. f (subst Digit (sym (chunk_byte (length text / 2) text i j lt two)) d);
+    }
+
+pub undigital : (text : List ℕ) (i : ℕ) (chunks : List (List ℕ)) → chunks ≡ first_chunks 2 (length text / 2) text → i < length text / 2 → (Digit (get_or (get_or chunks i []) 0 0) → ⊥) ⊎ (Digit (get_or (get_or chunks i []) 1 0) → ⊥) → Undigital text
+undigital text i chunks are lt (inl f) = faulty text i 0 lt (omega arith) (λ d. f (subst (λ cs. Digit (get_or (get_or cs i []) 0 0)) (sym are) d))
+undigital text i chunks are lt (inr f) = faulty text i 1 lt (omega arith) (λ d. f (subst (λ cs. Digit (get_or (get_or cs i []) 1 0)) (sym are) d))

@@ -1,7 +1,8 @@
 -- Bytes as pairs of lower-case hexadecimal digits.
-use Rattle.std.specs.Prelude.{◌≡◌, ℕ, ◌/◌, ◌%◌, ◌<◌, ◌≤◌, ◌⊎◌, false, List, [], ◌∷◌, ◌++◌, Ok, Err, Result}
+use Rattle.std.specs.Prelude.{◌≡◌, ℕ, ◌/◌, ◌%◌, ◌<◌, ◌≤◌, ◌⊎◌, false, List, [], ◌∷◌, ◌++◌, length, Ok, Err, Result, get_or}
 use Rattle.std.specs.Fmt.{digit_glyph}
 use Rattle.headers_text.specs.declared.hex.HexFault.{HexFault}
+use Rattle.headers_text.specs.declared.hex.HexFault.TheVariants.{Odd, NoDigit, Memory}
 
 -- the digit of a value below 16
 abbrev pub glyph : ℕ → ℕ
@@ -26,6 +27,20 @@ pub record Added (text old new : List ℕ) : Type 0 where
   pub written : text ≡ pairs bytes
   pub after : new ≡ old ++ bytes
 
+-- some byte of the text is no digit
+pub record Undigital (text : List ℕ) : Type 0 where
+  pub place : ℕ
+  pub within : place < length text
+  pub fault : Digit (get_or text place 0) → ⊥
+
+-- what stood there stands there still, and bytes may follow it
+pub record Kept (old new : List ℕ) : Type 0 where
+  pub more : List ℕ
+  pub after : new ≡ old ++ more
+
+-- the text's bytes were added; or the text is odd, and nothing was; or a byte of it is no digit, or memory ran out
 abbrev pub Decoded : Result (Unit {0}) HexFault → List ℕ → List ℕ → List ℕ → Type 0
 Decoded (Ok _) text old new = Added text old new
-Decoded (Err _) text old new = Unit {0}
+Decoded (Err Odd) text old new = new ≡ old
+Decoded (Err NoDigit) text old new = Undigital text × Kept old new
+Decoded (Err Memory) text old new = Kept old new

@@ -1,5 +1,5 @@
 // Bytes as pairs of lower-case hexadecimal digits.
-ghost use Rattle.std.specs.Prelude.{◌≡◌, ℕ, ◌+◌, ◌-◌, ◌*◌, ◌%◌, ◌<◌, ◌≤◌, ◌↔◌, ◌++◌, length, IfSome, MatchOption, IsErrOf};
+ghost use Rattle.std.specs.Prelude.{◌≡◌, ℕ, ◌+◌, ◌-◌, ◌*◌, ◌%◌, ◌<◌, ◌≤◌, ◌↔◌, ◌++◌, length, ◌⊎◌, MatchOption, IsErrOf};
 ghost use Rattle.headers_text.specs.Hex.{glyph, pairs, Digit, Pair, Decoded};
 ghost use Rattle.headers_text.specs.declared.hex.HexFault.TheVariants.{Odd, Memory};
 
@@ -17,7 +17,7 @@ fn digit(b: u8) -> Option<u8>
 }
 
 fn pair(high: u8, low: u8) -> Option<u8>
-    ensures { IfSome result (λ v. Pair high low v) }
+    ensures { MatchOption result ((Digit high → ⊥) ⊎ (Digit low → ⊥)) (λ v. Pair high low v) }
 {
     Some(digit(high)? * 16 + digit(low)?)
 }
