@@ -2,7 +2,7 @@
 use Rattle.std.proofs.Common.{◌≡◌, ℕ, ◌+◌, ◌-◌, ◌≤◌, List, ◌++◌, length, take, drop, replicate, sym, refl, ap, ◌∙◌, ap₂, arith}
 use Rattle.std.proofs.lemmas.List.{take-append-drop, take_at, drop_at, length-append, length-replicate, replicate-append-replicate, length-take-le}
 use Rattle.amqp.specs.declared.tag.DeliveryTag.{DeliveryTag}
-use Rattle.amqp.specs.Tags.{tag_bytes, be4, tag_of, Canonical, SameBytesSameTag}
+use Rattle.amqp.specs.Tags.{tag_bytes, tag_from, be4, tag_of, Canonical, SameBytesSameTag}
 
 tag_ext : (x y : DeliveryTag) → x.len ≡ y.len → x.bytes ≡ y.bytes → x ≡ y
 tag_ext x y l b = λ i. record { len = l i; bytes = b i }
@@ -39,8 +39,13 @@ made t s h n e = (
 )
 
 -- bytes that were copied over zeros
-pub made_over : (t : DeliveryTag) (s : List ℕ) → length s ≤ 32 → t.len ≡ length s → t.bytes ≡ s ++ drop (length s) (replicate 32 0) → (tag_bytes t ≡ s) × Canonical t
-made_over t s h n e = made t s h n (e ∙ ap (λ r. s ++ r) (zeros 0 (length s) h))
+pub made_over : (t : DeliveryTag) (s : List ℕ) → length s ≤ 32 → t.len ≡ length s → t.bytes ≡ s ++ drop (length s) (replicate 32 0) → t ≡ tag_from s
+unfolding tag_from
+made_over t s h n e = tag_ext t _ n (e ∙ ap (λ r. s ++ r) (zeros 0 (length s) h))
+
+of_bytes : (s : List ℕ) → length s ≤ 32 → (tag_bytes (tag_from s) ≡ s) × Canonical (tag_from s)
+unfolding tag_from
+of_bytes s h = made (tag_from s) s h refl refl
 
 pub stands : SameBytesSameTag
-stands = record { one = same_tags; of_count = λ n. made (tag_of n) (be4 n) (omega arith) refl refl }
+stands = record { one = same_tags; of_bytes = of_bytes; of_count = λ n. made (tag_of n) (be4 n) (omega arith) refl refl }

@@ -1,5 +1,5 @@
 -- Every refusal's number, and what becomes of a sink's refusal in a call that puts frames.
-use Rattle.std.specs.Prelude.{ℕ}
+use Rattle.std.specs.Prelude.{ℕ, Some, None, Option}
 use Rattle.amqp.specs.declared.error.MakeError.{MakeError}
 use Rattle.amqp.specs.declared.error.MakeError.TheVariants.{Sizes}
 use Rattle.amqp.specs.declared.error.LinkStateError.{LinkStateError}
@@ -10,6 +10,8 @@ use Rattle.amqp.specs.declared.error.SendError.{SendError}
 use Rattle.amqp.specs.declared.error.SendError.TheVariants as send
 use Rattle.amqp.specs.declared.error.SenderAttachError.{SenderAttachError}
 use Rattle.amqp.specs.declared.error.SenderAttachError.TheVariants as attach
+use Rattle.amqp.specs.declared.error.ApplyRemoteDetachError.{ApplyRemoteDetachError}
+use Rattle.amqp.specs.declared.error.ApplyRemoteDetachError.TheVariants as detach
 use Rattle.amqp.specs.declared.error.TicketError.{TicketError}
 use Rattle.amqp.specs.declared.error.TicketError.TheVariants as ticket
 use Rattle.amqp.specs.declared.error.MemoryError.{MemoryError}
@@ -47,6 +49,14 @@ attach_number attach.SndSettleModeNotSupported = 4
 attach_number attach.IllegalTag = 5
 attach_number attach.TooManyUnsettled = 6
 attach_number attach.OutsidePool = 7
+
+-- a detach that was applied is not refused, whatever error it brought
+abbrev pub detach_number : ApplyRemoteDetachError → Option ℕ
+detach_number detach.IllegalState = Some 2
+detach_number detach.TableFull = Some 11
+detach_number detach.TagInTable = Some 13
+detach_number (detach.RemoteDetachedWithError c) = None
+detach_number (detach.RemoteClosedWithError c) = None
 
 abbrev pub ticket_number : TicketError → ℕ
 ticket_number ticket.NoSeat = 19

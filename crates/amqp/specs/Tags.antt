@@ -1,10 +1,18 @@
 -- Tags: their bytes, and when two are one.
-use Rattle.std.specs.Prelude.{◌≡◌, ℕ, ◌-◌, ◌/◌, ◌%◌, ◌≤◌, min, List, [], ◌∷◌, ◌++◌, length, take, drop, replicate}
+use Rattle.std.specs.Prelude.{◌≡◌, ℕ, ◌-◌, ◌/◌, ◌%◌, ◌≤◌, min, cond, List, [], ◌∷◌, ◌++◌, length, take, drop, replicate, Some, None, Option, nat_lt}
 use Rattle.amqp.specs.declared.tag.DeliveryTag.{DeliveryTag}
 
 -- at most 32 bytes
 abbrev pub tag_bytes : DeliveryTag → List ℕ
 tag_bytes t = take (min t.len 32) t.bytes
+
+-- the tag of at most 32 bytes: zeros stand past them
+unfoldable pub tag_from : List ℕ → DeliveryTag
+tag_from s = record { len = length s; bytes = s ++ replicate (32 - length s) 0 }
+
+-- the tag of bytes, if they are not too many
+abbrev pub tag_within : List ℕ → Option DeliveryTag
+tag_within s = cond (nat_lt 32 (length s)) None (Some (tag_from s))
 
 -- a number in four bytes, highest first
 abbrev pub be4 : ℕ → List ℕ
@@ -22,4 +30,5 @@ pub record Canonical (t : DeliveryTag) : Type 0 where
 
 pub record SameBytesSameTag : Type 0 where
   pub one : (x y : DeliveryTag) → Canonical x → Canonical y → tag_bytes x ≡ tag_bytes y → x ≡ y
+  pub of_bytes : (s : List ℕ) → length s ≤ 32 → (tag_bytes (tag_from s) ≡ s) × Canonical (tag_from s)
   pub of_count : (n : ℕ) → (tag_bytes (tag_of n) ≡ be4 n) × Canonical (tag_of n)

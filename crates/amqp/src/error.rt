@@ -1,8 +1,9 @@
 // What a call refuses. Each refusal has a number, by which docs/RULES.md and the programs name it: its case's discriminant, which
 // only a method of its own enum can read, or a match where a case carries a value and has none.
 ghost use Rattle.std.specs.Prelude.{◌≡◌};
-ghost use Rattle.amqp.specs.Refusals.{make_number, state_number, sink_number, send_number, attach_number, ticket_number, memory_number, of_sink};
+ghost use Rattle.amqp.specs.Refusals.{make_number, state_number, sink_number, send_number, attach_number, detach_number, ticket_number, memory_number, of_sink};
 
+use crate::condition::AmqpError;
 use crate::stop::SessionStopReason;
 
 // Making a link or a sink.
@@ -58,6 +59,17 @@ pub enum SenderAttachError {
     // The peer's map is too large, or the resume list too short for our table.
     TooManyUnsettled,
     OutsidePool,
+}
+
+// The peer's detach: what refuses it, or the error that it brought.
+#[derive(Clone, Copy, PartialEq, Eq)]
+pub enum ApplyRemoteDetachError {
+    IllegalState,
+    // The deliveries that come back find no room in the table, or their tag there.
+    TableFull,
+    TagInTable,
+    RemoteDetachedWithError(AmqpError),
+    RemoteClosedWithError(AmqpError),
 }
 
 // A ticket that is looked at or collected.
@@ -129,6 +141,21 @@ impl SenderAttachError {
         ensures { result ≡ attach_number self }
     {
         self as u8
+    }
+}
+
+impl ApplyRemoteDetachError {
+    // None where the detach was applied.
+    pub fn number(self) -> Option<u8>
+        ensures { result ≡ detach_number self }
+    {
+        match self {
+            ApplyRemoteDetachError::IllegalState => Some(2),
+            ApplyRemoteDetachError::TableFull => Some(11),
+            ApplyRemoteDetachError::TagInTable => Some(13),
+            ApplyRemoteDetachError::RemoteDetachedWithError(_)
+            | ApplyRemoteDetachError::RemoteClosedWithError(_) => None,
+        }
     }
 }
 

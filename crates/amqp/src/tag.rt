@@ -1,6 +1,6 @@
 // A delivery tag: 0 to 32 bytes (Part 2, 2.8.7).
-ghost use Rattle.std.specs.Prelude.{◌≡◌, ◌+◌, ◌≤◌, length, MatchOption};
-ghost use Rattle.amqp.specs.Tags.{tag_bytes, tag_of, Canonical, SameBytesSameTag};
+ghost use Rattle.std.specs.Prelude.{◌≡◌, length};
+ghost use Rattle.amqp.specs.Tags.{tag_bytes, tag_within, tag_of, SameBytesSameTag};
 
 // Zeros stand past its bytes, so that tags of the same bytes are equal. It is copied by value and takes no heap, as a link
 // does, and a vector of fixed capacity is not `Copy`: so the length stands beside the bytes.
@@ -13,7 +13,7 @@ pub struct DeliveryTag {
 impl DeliveryTag {
     // The tag of these bytes, or none where there are more than 32. An error of `TryFrom` could say no more.
     pub fn from_slice(s: &[u8]) -> Option<DeliveryTag>
-        ensures { MatchOption result (32 + 1 ≤ length s.now) (λ t. (tag_bytes t ≡ s.now) × Canonical t) }
+        ensures { result ≡ tag_within s.now }
     {
         if s.len() > 32 {
             return None;
@@ -48,7 +48,7 @@ impl DeliveryTag {
     }
 }
 
-// Two tags with the same bytes are one tag, and a count's tag has its four bytes.
+// Two tags with the same bytes are one tag; the tag of bytes has these bytes, and a count's tag its four.
 pub fn same_bytes_same_tag()
     ensures { SameBytesSameTag }
 {}

@@ -8,7 +8,6 @@ pub mod Fields
 pub mod Compact
 pub mod Wide
 pub mod Agree
-pub mod Tags
 pub mod States
 pub mod Headers
 pub mod Fits

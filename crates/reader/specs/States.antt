@@ -11,7 +11,7 @@ use Rattle.codec.specs.Values.{condition_name}
 use Rattle.reader.specs.Places.{Found, Reader, then, byte_at, value_place}
 use Rattle.reader.specs.Fields.{must_at, may_at, null_at}
 use Rattle.reader.specs.Reading.{Reading}
-use Rattle.reader.specs.Tags.{tag_from}
+use Rattle.amqp.specs.Tags.{tag_from}
 
 abbrev pub conditions : List AmqpError
 conditions =

@@ -1,6 +1,6 @@
 // Delivery tags as they are read.
 ghost use Rattle.std.specs.Prelude.{◌≡◌, ◌≤◌, length};
-ghost use Rattle.reader.specs.Tags.{tag_from};
+ghost use Rattle.amqp.specs.Tags.{tag_from};
 ghost use Rattle.reader.specs.States.{tag_at};
 
 use crate::field::Item;

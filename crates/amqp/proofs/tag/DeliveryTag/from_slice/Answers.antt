@@ -1,6 +1,7 @@
-use Rattle.std.proofs.Common.{rules, refl}
+use Rattle.std.proofs.Common.{Some, length, rules, refl, ap}
+use Rattle.std.proofs.lemmas.Bool.{le-ltb}
 use Rattle.amqp.proofs.Tags.{made_over}
 use Rattle.amqp.proofs.tag.DeliveryTag.from_slice.Goals as goal
 
 pub returns : goal.returns
-returns c = made_over _ c.args.s.now c.if-s-gt32.false refl (search rules)
+returns c = rw (le-ltb 32 (length c.args.s.now) c.if-s-gt32.false) (ap Some (made_over _ c.args.s.now c.if-s-gt32.false refl (search rules)))
