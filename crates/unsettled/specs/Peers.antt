@@ -1,7 +1,10 @@
 -- The tags that a peer's attach brings.
-use Rattle.std.specs.Prelude.{ℕ, ◌<◌, ◌≤◌, Bool, ◌||◌, List, [], length, take, None, ◌≢◌, nat_lt, slice_index_or}
+use Rattle.std.specs.Prelude.{ℕ, ◌<◌, ◌≤◌, Bool, ◌||◌, List, [], map, length, take, Option, None, ◌≢◌, nat_lt, slice_index_or}
 use Rattle.std.specs.List.{list_any, range_with_len}
 use Rattle.std.specs.Str.{bytes_eq}
+use Rattle.amqp.specs.declared.state.DeliveryState.{DeliveryState}
+use Rattle.amqp.specs.Tags.{tag_from}
+use Rattle.unsettled.specs.declared.slot.Slot.{Slot}
 use Rattle.unsettled.specs.declared.peer.PeerDelivery.{PeerDelivery}
 
 -- a pair's tag
@@ -32,3 +35,7 @@ illegal_tags ps = list_any (illegal_at ps) (range_with_len 0 (length ps))
 pub record LegalTags (ps : List PeerDelivery) : Type 0 where
   pub short : (i : ℕ) → i < length ps → length (tag_at ps i) ≤ 32
   pub apart : (i j : ℕ) → i < j → j < length ps → tag_at ps i ≢ tag_at ps j
+
+-- the pairs as the slots of a table
+abbrev pub peers_of : List PeerDelivery → List (Slot (Option DeliveryState))
+peers_of ps = map (λ p. record { tag = tag_from (bytes_of p); entry = p.state }) ps

@@ -1,0 +1,31 @@
+// Where the sections of a message begin, and where a place in one lies (Part 3, 3.2 and 3.4.1).
+#![tactic(auto)]
+
+ghost use Rattle.std.specs.Prelude.{◌≡◌};
+ghost use Rattle.sections.specs.Sections.{section_header, start_of, OnePosition};
+
+// The first byte of a described value, and the codes of a descriptor in one byte and in eight (Part 1, 1.6).
+const DESCRIBED_TYPE: u8 = 0x00;
+
+const SMALL_ULONG_TYPE: u8 = 0x53;
+
+const ULONG_TYPE: u8 = 0x80;
+
+// The codes of a section, from header to footer (Part 3, 3.2).
+const HEADER_CODE: u8 = 0x70;
+
+const FOOTER_CODE: u8 = 0x78;
+
+// A section begins with these three bytes.
+pub fn is_section_header(b0: u8, b1: u8, b2: u8) -> bool
+    ensures { result ≡ section_header b0 b1 b2 }
+{
+    matches!(
+        (b0, b1, b2),
+        (
+            DESCRIBED_TYPE,
+            SMALL_ULONG_TYPE | ULONG_TYPE,
+            HEADER_CODE..=FOOTER_CODE,
+        )
+    )
+}
