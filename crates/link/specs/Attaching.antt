@@ -1,5 +1,6 @@
 -- Open and attach.
-use Rattle.std.specs.Prelude.{ℕ, Bool, cond, not, ◌&&◌, ◌||◌, List, [], ◌∷◌, length, is_some, Some, Option, Result, ◌==◌, nat_lt}
+use Rattle.std.specs.Prelude.{ℕ, Bool, cond, not, ◌+◌, ◌&&◌, ◌||◌, List, [], ◌∷◌, ◌++◌, length, is_some, Some, Option, Result, ◌==◌, nat_lt}
+use Rattle.std.specs.List.{flat_map}
 use Rattle.std.specs.Option.{option_or, unwrap_or}
 use Rattle.amqp.specs.declared.error.LinkStateError.{LinkStateError}
 use Rattle.amqp.specs.declared.error.LinkStateError.TheVariants.{IllegalState}
@@ -12,26 +13,12 @@ use Rattle.link.specs.declared.attach.SenderAttachExchange.{SenderAttachExchange
 use Rattle.link.specs.declared.attach.SenderAttachExchange.TheVariants.{Complete, IncompleteUnsettled, Resume}
 use Rattle.link.specs.declared.settings.Settings.{Settings}
 use Rattle.link.specs.declared.state.LinkState.{LinkState}
+use Rattle.link.specs.Resuming.{item_of, end_of}
 use Rattle.link.specs.Rows.{row, first, gated, unless}
 use Rattle.link.specs.Settings.{with_limit, with_receiver, smaller_limit, conflict}
 use Rattle.link.specs.States.{after_open, after_attach, is_incomplete}
-use Rattle.link.specs.Views.{View}
-use Rattle.link.specs.Turns.{Turn}
-
--- the same link in another state, with other handles and settings
-abbrev pub moves : LinkState → (output input : Option ℕ) → Settings → View → Turn
-moves state output input settings v =
-    record {
-      state = state;
-      output = output;
-      input = input;
-      settings = settings;
-      flow = v.flow;
-      held = v.held;
-      begun = [];
-      ends = [];
-      spent = [];
-    }
+use Rattle.link.specs.Turns.{Turn, moved}
+use Rattle.link.specs.Views.{View, Held}
 
 -- a state that has no way on is refused
 abbrev pub stuck : {E : Type 0} → Option LinkState → E → Option E
@@ -46,18 +33,18 @@ abbrev pub opened_state : View → (incomplete : Bool) → LinkState
 opened_state v incomplete = unwrap_or (after_open v.state incomplete) v.state
 
 abbrev pub opened : View → (handle : ℕ) (incomplete : Bool) → Turn
-opened v handle incomplete = moves (opened_state v incomplete) (Some handle) v.input v.settings v
+opened v handle incomplete = moved v (opened_state v incomplete) (Some handle) v.input v.settings v.held []
 
 abbrev pub open_answer : View → (incomplete : Bool) → Result LinkState LinkStateError
 open_answer v incomplete = gated (open_refusal v incomplete) (opened_state v incomplete)
 
--- ---- attach: before the move 2, 5, 6, 7
+-- ---- attach: before the move 2, 5, 6 (over 1,024 pairs, or no room in the resume list), 7
 
 abbrev pub next_state : View → Attach → Option LinkState
 next_state v a = after_attach v.state a.incomplete_unsettled
 
 abbrev pub too_many : View → Attach → Bool
-too_many v a = nat_lt 1024 (length a.unsettled.now) || nat_lt v.rooms.resume (length v.held.table)
+too_many v a = nat_lt 1024 (length a.unsettled.now) || nat_lt v.rooms.resume (length v.held.resume + length v.held.table)
 
 abbrev pub attach_rows : View → Attach → (pool : List ℕ) → List (Option SenderAttachError)
 attach_rows v a pool =
@@ -91,8 +78,14 @@ limited v a = with_limit (smaller_limit v.settings.max_message_size a.max_messag
 abbrev pub attached_settings : View → Attach → Settings
 attached_settings v a = unless (no_target a) v.settings (unless (modes_conflict v a) (receiving v a) (limited v a))
 
+-- the table is emptied in its order; what does not end joins the resume list
+abbrev pub resumed : View → Attach → Held
+resumed v a = record { table = []; resume = v.held.resume ++ flat_map (item_of a) v.held.table; resend = v.held.resend }
+
 abbrev pub attached : View → Attach → Turn
-attached v a = moves (attached_state v a) v.output (Some a.handle) (attached_settings v a) v
+attached v a =
+    moved v (attached_state v a) v.output (Some a.handle) (attached_settings v a) (unless (late_refusal v a) v.held (resumed v a))
+    (unless (late_refusal v a) [] (flat_map (end_of a) v.held.table))
 
 abbrev pub none_unsettled : View → Attach → Bool
 none_unsettled v a = length v.held.table == 0 && length a.unsettled.now == 0

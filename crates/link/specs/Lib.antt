@@ -7,7 +7,11 @@ pub mod Texts
 pub mod Seats
 pub mod Views
 pub mod Turns
+pub mod Resuming
 pub mod Attaching
+pub mod Detaching
 pub mod Sending
 pub mod Disposing
+pub mod Working
+pub mod Resending
 pub mod Calls

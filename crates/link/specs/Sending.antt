@@ -23,7 +23,7 @@ use Rattle.link.specs.Seats.{is_free}
 use Rattle.link.specs.Settings.{settles, exceeds}
 use Rattle.link.specs.States.{is_attached}
 use Rattle.link.specs.Views.{View, Held, Entry}
-use Rattle.link.specs.Turns.{Turn}
+use Rattle.link.specs.Turns.{Turn, turned}
 
 -- what a call that puts frames is given besides the link: the encoder's bytes, the pool of messages and the sink
 pub record Carrier : Type 0 where
@@ -81,11 +81,15 @@ share_of frame size = frame - 4 - size
 abbrev pub narrow : (frame size len : ℕ) → Bool
 narrow frame size len = nat_lt frame (size + 4) || (share_of frame size == 0 && nat_lt 0 len)
 
+-- what the frames of a transfer have left for its payload
+abbrev pub share_by : View → Carrier → Transfer → ℕ
+share_by v c t = share_of v.settings.max_frame_size (measured c.bytes t)
+
 abbrev pub size_for : View → Carrier → Sendable → ℕ
 size_for v c m = measured c.bytes (transfer_of v m)
 
 abbrev pub share_for : View → Carrier → Sendable → ℕ
-share_for v c m = share_of v.settings.max_frame_size (size_for v c m)
+share_for v c m = share_by v c (transfer_of v m)
 
 -- the frames of a transfer with a payload
 abbrev pub cut : View → Transfer → (share : ℕ) → List ℕ → List Frame
@@ -100,9 +104,13 @@ frames_needed share msg = count_of (length msg) (max 1 share)
 
 -- ---- what refuses it, in order
 
--- the link is attached, and knows both handles
+-- both handles are known, without which no frame can go out
+abbrev pub handled : View → Bool
+handled v = is_some v.output && is_some v.input
+
+-- new deliveries may go out
 abbrev pub ready : View → Bool
-ready v = is_attached v.state && (is_some v.output && is_some v.input)
+ready v = is_attached v.state && handled v
 
 abbrev pub none_left : {X : Type 0} → List X → Bool
 none_left xs = length xs == 0
@@ -119,9 +127,13 @@ tag_there t v = is_some (look t v.held.table)
 abbrev pub no_seat : View → Bool
 no_seat v = not (list_any is_free v.seats)
 
--- what refuses an entry of the next tag: 11, 13, 12
+-- what refuses an entry of this tag: 11, 13
+abbrev pub join_rows : DeliveryTag → View → List (Option SendError)
+join_rows t v = row (table_full v) fault.TableFull ∷ row (tag_there t v) fault.TagInTable ∷ []
+
+-- what refuses a new delivery: that, and 12
 abbrev pub entry_rows : View → List (Option SendError)
-entry_rows v = row (table_full v) fault.TableFull ∷ row (tag_there (next_tag v) v) fault.TagInTable ∷ row (no_seat v) fault.NoSeat ∷ []
+entry_rows v = join_rows (next_tag v) v ++ row (no_seat v) fault.NoSeat ∷ []
 
 -- 2, 9, 7, 8, 10, 14, and of an unsettled delivery what refuses its entry
 abbrev pub own_rows : View → Carrier → Sendable → List (Option SendError)
@@ -160,30 +172,8 @@ answer_as false v = ticket (next_number v)
 
 -- a delivery takes one credit; one that is unsettled joins the table and begins
 abbrev pub sent_as : (settled : Bool) → View → Sendable → Turn
-sent_as true v m =
-    record {
-      state = v.state;
-      output = v.output;
-      input = v.input;
-      settings = v.settings;
-      flow = consumed v.flow;
-      held = v.held;
-      begun = [];
-      ends = [];
-      spent = [];
-    }
-sent_as false v m =
-    record {
-      state = v.state;
-      output = v.output;
-      input = v.input;
-      settings = v.settings;
-      flow = consumed v.flow;
-      held = with_table (v.held.table ++ first_sent v m ∷ []) v.held;
-      begun = next_number v ∷ [];
-      ends = [];
-      spent = [];
-    }
+sent_as true v m = turned v (consumed v.flow) v.held [] [] []
+sent_as false v m = turned v (consumed v.flow) (with_table (v.held.table ++ first_sent v m ∷ []) v.held) (next_number v ∷ []) [] []
 
 abbrev pub sent : View → Sendable → Turn
 sent v m = sent_as (goes_settled v m) v m

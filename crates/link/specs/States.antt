@@ -54,3 +54,31 @@ is_attached Attached = true
 is_attached IncompleteAttachExchanged = false
 is_attached Detached = false
 is_attached Closed = false
+
+-- deliveries that come back may go out (Part 2, 2.7.3)
+abbrev pub may_work : LinkState → Bool
+may_work Unattached = false
+may_work AttachSent = false
+may_work IncompleteAttachSent = false
+may_work AttachReceived = false
+may_work IncompleteAttachReceived = false
+may_work Attached = true
+may_work IncompleteAttachExchanged = true
+may_work Detached = false
+may_work Closed = false
+
+abbrev left : (closed : Bool) → LinkState
+left true = Closed
+left false = Detached
+
+-- the peer's detach
+abbrev pub after_detach : LinkState → (closed : Bool) → Option LinkState
+after_detach Unattached closed = None
+after_detach AttachSent closed = Some (left closed)
+after_detach IncompleteAttachSent closed = Some (left closed)
+after_detach AttachReceived closed = Some (left closed)
+after_detach IncompleteAttachReceived closed = Some (left closed)
+after_detach Attached closed = Some (left closed)
+after_detach IncompleteAttachExchanged closed = Some (left closed)
+after_detach Detached closed = None
+after_detach Closed closed = None

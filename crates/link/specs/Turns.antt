@@ -24,20 +24,43 @@ pub record Turn : Type 0 where
   pub ends : List End
   pub spent : List ℕ
 
--- nothing changes
-abbrev pub stay : View → Turn
-stay v =
+-- the link stays where it is: its credit, what is held, what begins and ends, which tickets are spent
+abbrev pub turned : View → LinkFlowState → Held → List ℕ → List End → List ℕ → Turn
+turned v flow held begun ends spent =
     record {
       state = v.state;
       output = v.output;
       input = v.input;
       settings = v.settings;
+      flow = flow;
+      held = held;
+      begun = begun;
+      ends = ends;
+      spent = spent;
+    }
+
+-- the link moves: its state, handles and settings, what is held and what ends
+abbrev pub moved : View → LinkState → (output input : Option ℕ) → Settings → Held → List End → Turn
+moved v state output input settings held ends =
+    record {
+      state = state;
+      output = output;
+      input = input;
+      settings = settings;
       flow = v.flow;
-      held = v.held;
+      held = held;
       begun = [];
-      ends = [];
+      ends = ends;
       spent = [];
     }
+
+-- nothing changes
+abbrev pub stay : View → Turn
+stay v = turned v v.flow v.held [] [] []
+
+-- only what is held changes, and these deliveries end
+abbrev pub holding : View → Held → List End → Turn
+holding v held ends = turned v v.flow held [] ends []
 
 abbrev pub sit_all : List ℕ → List Seat → List Seat
 sit_all [] ss = ss

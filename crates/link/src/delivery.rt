@@ -1,9 +1,12 @@
 // Messages on their way out, and how deliveries end.
 ghost use Rattle.std.specs.Prelude.{◌≡◌, Some};
+ghost use Rattle.link.specs.Detaching.{closed_by};
 ghost use Rattle.link.specs.Outcomes.{ended, recorded, outcome_of};
 ghost use Rattle.link.specs.Texts.{outcome_text};
 
+use amqp::condition::AmqpError;
 use amqp::state::DeliveryState;
+use amqp::tag::DeliveryTag;
 use std::fmt;
 use unsettled::message::Place;
 
@@ -17,6 +20,16 @@ pub struct Sendable {
     pub batchable: bool,
 }
 
+// What we tell the peer of a delivery: its id in the session, and its state.
+#[derive(Clone, Copy)]
+pub struct Disposal {
+    pub delivery_id: u32,
+    pub delivery_tag: DeliveryTag,
+    pub settled: bool,
+    pub state: DeliveryState,
+    pub batchable: bool,
+}
+
 // How a delivery ended. It is no Option, since a ticket tells one of these or none yet: of None and Some(None) nothing
 // would say which is which.
 #[derive(Clone, Copy, PartialEq, Eq)]
@@ -24,6 +37,9 @@ pub enum Outcome {
     State(DeliveryState),
     // It was settled, and no state was ever told.
     NoState,
+    // The peer closed the link before it was settled.
+    RemoteClosed,
+    RemoteClosedWithError(AmqpError),
 }
 
 // Whether a state is there, and is an outcome.
@@ -41,6 +57,13 @@ pub fn record_state(
     ensures { result ≡ recorded known told }
 {
     if is_terminal(known) { known } else { told }
+}
+
+// How deliveries end when the peer closes the link.
+pub fn closed_by(error: Option<AmqpError>) -> Outcome
+    ensures { result ≡ closed_by error }
+{
+    error.map_or(Outcome::RemoteClosed, Outcome::RemoteClosedWithError)
 }
 
 impl From<Option<DeliveryState>> for Outcome {
@@ -61,6 +84,10 @@ impl fmt::Display for Outcome {
         match *self {
             Outcome::NoState => f.write_str("none"),
             Outcome::State(state) => write!(f, "{state}"),
+            Outcome::RemoteClosed => f.write_str("RemoteClosed"),
+            Outcome::RemoteClosedWithError(condition) => {
+                write!(f, "RemoteClosedWithError {}", condition.number())
+            }
         }
     }
 }

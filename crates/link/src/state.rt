@@ -13,7 +13,7 @@
 //      │ detach
 //   every state but Unattached, Detached and Closed; a closing detach leads to Closed
 ghost use Rattle.std.specs.Prelude.{◌≡◌};
-ghost use Rattle.link.specs.States.{after_open, after_attach, is_incomplete};
+ghost use Rattle.link.specs.States.{after_open, after_attach, after_detach, is_incomplete, may_work};
 
 #[derive(Clone, Copy, PartialEq, Eq)]
 pub enum LinkState {
@@ -65,6 +65,27 @@ impl LinkState {
             }
             _ => None,
         }
+    }
+
+    // After the peer's detach, or none where it may not come.
+    pub fn on_incoming_detach(self, closed: bool) -> Option<LinkState>
+        ensures { result ≡ after_detach self closed }
+    {
+        match (self, closed) {
+            (LinkState::Unattached | LinkState::Detached | LinkState::Closed, _) => None,
+            (_, true) => Some(LinkState::Closed),
+            (_, false) => Some(LinkState::Detached),
+        }
+    }
+
+    // Deliveries that came back may go out.
+    pub fn may_work(self) -> bool
+        ensures { result ≡ may_work self }
+    {
+        matches!(
+            self,
+            LinkState::Attached | LinkState::IncompleteAttachExchanged
+        )
     }
 
     // One end's map of unsettled deliveries is not complete.
