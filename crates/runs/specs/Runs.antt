@@ -3,17 +3,18 @@
 use Rattle.std.specs.Prelude.{◌≡◌, ℕ, ◌+◌, ◌≤◌, Bool, true, false, List, [], ◌∷◌, Ok, Err, Result, ◌==◌}
 use Rattle.amqp.specs.declared.error.SendError.{SendError}
 use Rattle.link.specs.declared.settings.Settings.{Settings}
-use Rattle.link.specs.Calls.{Call, Open, Attach, Flow, Send, Disposition, Look, Collect, step}
+use Rattle.link.specs.Calls.{Call, Open, Attach, Flow, Send, Disposition, Dispose, Work, Resend, Detach, Look, Collect, step}
 use Rattle.link.specs.Sending.{Sent, ticket, settled, send_answer}
 use Rattle.link.specs.Views.{View, Rooms, fresh}
 
--- what a link is made with; its count has 32 bits
+-- what a link is made with: its count has 32 bits, and its resend list is no shorter than its table
 pub record Making : Type 0 where
   pub settings : Settings
   pub initial : ℕ
   pub rooms : Rooms
   pub seats : ℕ
   pub counted : initial ≤ 4294967295
+  pub resends : rooms.table ≤ rooms.resend
 
 pub data Run : Type 0 where
   made : Making → Run
@@ -51,6 +52,10 @@ gives n v (Attach a pool) = 0
 gives n v (Flow i) = 0
 gives n v (Send c m) = ticket_in n (send_answer v c m)
 gives n v (Disposition t b s) = 0
+gives n v (Dispose k d) = 0
+gives n v (Work c) = 0
+gives n v (Resend c) = 0
+gives n v (Detach closed error) = 0
 gives n v (Look k) = 0
 gives n v (Collect k) = 0
 
@@ -60,6 +65,10 @@ spends n (Attach a pool) = 0
 spends n (Flow i) = 0
 spends n (Send c m) = 0
 spends n (Disposition t b s) = 0
+spends n (Dispose k d) = 0
+spends n (Work c) = 0
+spends n (Resend c) = 0
+spends n (Detach closed error) = 0
 spends n (Look k) = 0
 spends n (Collect k) = one (n == k)
 

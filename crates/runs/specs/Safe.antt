@@ -1,12 +1,24 @@
 -- What holds of every run of a link.
-use Rattle.std.specs.Prelude.{◌≡◌, ℕ, List, Ok}
+use Rattle.std.specs.Prelude.{◌≡◌, ℕ, Bool, List, Some, Ok, ◌≢◌}
+use Rattle.amqp.specs.declared.error.ApplyRemoteDetachError.TheVariants as detach
+use Rattle.amqp.specs.declared.error.SendError.TheVariants as send
 use Rattle.link.specs.declared.delivery.Outcome.{Outcome}
 use Rattle.link.specs.Calls.{Call, put_by}
+use Rattle.link.specs.Detaching.{detach_refusal}
 use Rattle.link.specs.Disposing.{looked}
+use Rattle.link.specs.Resending.{resend_refusal}
+use Rattle.link.specs.Sending.{Carrier}
 use Rattle.link.specs.Views.{View}
+use Rattle.link.specs.Working.{work_refusal}
 use Rattle.runs.specs.Frames.{PutsRight}
 use Rattle.runs.specs.Lives.{over, life, AsLived, born, progress}
 use Rattle.runs.specs.Runs.{Run, made, Making, ◌▹◌, after, ◌then◌, Leads, given, collected}
+
+-- deliveries that come back never stand in the way of one another: neither 11 nor 13 stops work, a resend or a detach
+pub record NeverInTheWay (v : View) : Type 0 where
+  pub work : (c : Carrier) → (work_refusal v c ≢ Some send.TableFull) × (work_refusal v c ≢ Some send.TagInTable)
+  pub resend : (c : Carrier) → (resend_refusal v c ≢ Some send.TableFull) × (resend_refusal v c ≢ Some send.TagInTable)
+  pub detach : (closed : Bool) → (detach_refusal v closed ≢ Some detach.TableFull) × (detach_refusal v closed ≢ Some detach.TagInTable)
 
 pub record Safe (r : Run) (v : View) : Type 0 where
   -- what the link's memory holds of a delivery is what its life says: it stands once, where, under which tag, at which
@@ -16,6 +28,7 @@ pub record Safe (r : Run) (v : View) : Type 0 where
   pub no_number_given_twice : (n : ℕ) → given n r ≡ born (life r n)
   -- look and collect answer pending before the call that ends the delivery, and then its outcome
   pub ticket_tells_the_outcome : (n : ℕ) → given n r ≡ 1 → collected n r ≡ 0 → looked v n ≡ Ok (progress (life r n))
+  pub never_in_the_way : NeverInTheWay v
   -- whatever calls follow
   pub ended_for_good : (n : ℕ) (o : Outcome) → life r n ≡ over o → (cs : List Call) → life (r then cs) n ≡ over o
 
