@@ -2,3 +2,4 @@ pub mod Firsts
 pub mod Legal
 pub mod Memory
 pub mod Same
+pub mod Spans
