@@ -3,3 +3,4 @@ pub mod Legal
 pub mod Memory
 pub mod Same
 pub mod Spans
+pub mod Showing
