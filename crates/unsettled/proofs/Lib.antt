@@ -4,3 +4,4 @@ pub mod Memory
 pub mod Same
 pub mod Spans
 pub mod Showing
+pub mod Gathered
