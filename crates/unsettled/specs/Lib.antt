@@ -3,3 +3,4 @@ pub mod Tables
 pub mod Worklists
 pub mod Messages
 pub mod Peers
+pub mod Shown

@@ -1,11 +1,12 @@
 -- The tags that a peer's attach brings.
-use Rattle.std.specs.Prelude.{ℕ, ◌<◌, ◌≤◌, Bool, ◌||◌, List, [], map, length, take, Option, None, ◌≢◌, nat_lt, slice_index_or}
+use Rattle.std.specs.Prelude.{ℕ, ◌<◌, ◌≤◌, Bool, cond, ◌&&◌, ◌||◌, List, [], map, length, take, Option, None, ◌≢◌, nat_le, nat_lt, slice_index_or}
 use Rattle.std.specs.List.{list_any, range_with_len}
 use Rattle.std.specs.Str.{bytes_eq}
 use Rattle.amqp.specs.declared.state.DeliveryState.{DeliveryState}
 use Rattle.amqp.specs.Tags.{tag_from}
 use Rattle.unsettled.specs.declared.slot.Slot.{Slot}
 use Rattle.unsettled.specs.declared.peer.PeerDelivery.{PeerDelivery}
+use Rattle.unsettled.specs.Tables.{can_put, put_in}
 
 -- a pair's tag
 abbrev pub bytes_of : PeerDelivery → List ℕ
@@ -39,3 +40,8 @@ pub record LegalTags (ps : List PeerDelivery) : Type 0 where
 -- the pairs as the slots of a table
 abbrev pub peers_of : List PeerDelivery → List (Slot (Option DeliveryState))
 peers_of ps = map (λ p. record { tag = tag_from (bytes_of p); entry = p.state }) ps
+
+-- a pair is put under its tag where that has at most 32 bytes and there is room among n slots
+abbrev pub with_pair : ℕ → List (Slot (Option DeliveryState)) → PeerDelivery → List (Slot (Option DeliveryState))
+with_pair n xs p =
+    cond (nat_le (length (bytes_of p)) 32 && can_put n (tag_from (bytes_of p)) xs) (put_in (tag_from (bytes_of p)) p.state xs) xs

@@ -4,5 +4,6 @@
 pub mod map;
 pub mod message;
 pub mod peer;
+pub mod shown;
 pub mod slot;
 pub mod worklist;

@@ -1,5 +1,5 @@
 // A table of unsettled deliveries by their tags, in lent memory (Part 2, 2.6.13).
-ghost use Rattle.std.specs.Prelude.{◌≡◌, ◌<◌, ◌≤◌, [], length, is_some, IfSome, if◌then◌else◌, Ok, Err};
+ghost use Rattle.std.specs.Prelude.{◌≡◌, ◌<◌, ◌≤◌, [], length, take, is_some, IfSome, if◌then◌else◌, Ok, Err};
 ghost use Rattle.std.specs.List.{slice_get};
 
 use crate::slot::{MapError, Slot};
@@ -120,5 +120,13 @@ impl<'a, M: Copy> UnsettledMap<'a, M> {
         ensures room { room self.new ≡ room self.old }
     {
         self.len = 0;
+    }
+
+    // Keeps the first `len` slots.
+    pub fn truncate(&mut self, len: usize)
+        ensures holds { held self.new ≡ take len (held self.old) }
+        ensures room { room self.new ≡ room self.old }
+    {
+        self.len = self.len.min(len);
     }
 }

@@ -2,6 +2,7 @@
 ghost use Rattle.std.specs.Prelude.{◌≡◌, length};
 ghost use Rattle.unsettled.specs.Messages.{outside, any_outside};
 
+use crate::shown::AsDeliveryState;
 use crate::slot::Slot;
 use amqp::state::DeliveryState;
 
@@ -32,6 +33,14 @@ impl Place {
     {
         let n = pool.len();
         n > MAX_POOL || self.start > n || self.len > n - self.start
+    }
+}
+
+impl AsDeliveryState for UnsettledMessage {
+    ghost state = { λ m. m.state };
+
+    fn as_delivery_state(&self) -> Option<DeliveryState> {
+        self.state
     }
 }
 
