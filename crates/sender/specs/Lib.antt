@@ -1,2 +1,5 @@
 pub mod Views
+pub mod Tasks
+pub mod Puts
 pub mod Sends
+pub mod Works

@@ -11,12 +11,14 @@ use unsettled::slot::Slot;
 use unsettled::worklist::Worklist;
 
 pub mod attach;
+mod carry;
 pub mod disposition;
 pub mod flow;
 pub mod making;
 pub mod open;
 pub mod send;
 pub mod tickets;
+pub mod work;
 
 #[derive(Drop)]
 pub struct SenderLink<'a> {

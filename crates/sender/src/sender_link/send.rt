@@ -1,6 +1,6 @@
 // Sending a message.
 ghost use Rattle.std.specs.Prelude.{◌≡◌, ◌+◌, ◌≤◌, false, length, IfOk};
-ghost use Rattle.link.specs.Sending.{carrier, ready, busy, narrow, transfer_of, next_tag, tag_there, table_full};
+ghost use Rattle.link.specs.Sending.{carrier, ready, busy, transfer_of, next_tag, tag_there, table_full};
 ghost use Rattle.link.specs.Calls.{Send};
 ghost use Rattle.sender.specs.Sends.{addable, planned, added, HandedOver, Sends, Uncollected};
 
@@ -9,11 +9,10 @@ use crate::ticket::{Settlement, Ticket};
 use amqp::error::{LinkStateError, SendError};
 use amqp::header::Transfer;
 use amqp::tag::DeliveryTag;
-use codec::encoder::{Encoder, measure};
+use codec::encoder::Encoder;
 use link::delivery::Sendable;
 use link::state::LinkState;
 use sink::sink::Sink;
-use sink::split::split;
 use unsettled::message::UnsettledMessage;
 
 // What an accepted send goes by.
@@ -24,20 +23,11 @@ struct Plan {
     settled: bool,
 }
 
-// Whether no frame fits, or only empty ones for a message that is not.
-fn is_narrow(frame: usize, size: usize, len: usize) -> bool
-    ensures { result ≡ narrow frame size len }
-{
-    frame < 4 || frame - 4 < size || (frame - 4 == size && len > 0)
-}
-
 impl<'a> SenderLink<'a> {
-    fn is_ready(&self) -> bool
+    pub(super) fn is_ready(&self) -> bool
         ensures { result ≡ ready self.now }
     {
-        matches!(self.local_state, LinkState::Attached)
-            && self.output_handle.is_some()
-            && self.input_handle.is_some()
+        matches!(self.local_state, LinkState::Attached) && self.has_handles()
     }
 
     fn is_busy(&self) -> bool
@@ -46,7 +36,7 @@ impl<'a> SenderLink<'a> {
         !(self.resume.is_empty() && self.resend.is_empty())
     }
 
-    fn transfer(&self, message: &Sendable) -> Transfer
+    pub(super) fn transfer(&self, message: &Sendable) -> Transfer
         ensures { result ≡ transfer_of self.now message.now }
     {
         Transfer {
@@ -67,13 +57,7 @@ impl<'a> SenderLink<'a> {
     fn may_add(&self) -> Result<(), SendError>
         ensures { result ≡ addable self.now }
     {
-        if self.unsettled.is_full() {
-            return Err(SendError::TableFull);
-        }
-        let tag = DeliveryTag::from_count(self.flow_state.delivery_count);
-        if self.unsettled.contains(&tag) {
-            return Err(SendError::TagInTable);
-        }
+        self.may_join(&DeliveryTag::from_count(self.flow_state.delivery_count))?;
         if !self.seats.has_free() {
             return Err(SendError::NoSeat);
         }
@@ -104,17 +88,12 @@ impl<'a> SenderLink<'a> {
         if self.flow_state.link_credit == 0 {
             return Err(SendError::NoCredit);
         }
-        let mut transfer = self.transfer(message);
-        let size = measure(&mut transfer, encoder);
-        let frame = self.settings.max_frame_size;
-        if is_narrow(frame, size, message.place.len) {
-            return Err(SendError::FrameTooSmall);
-        }
+        let transfer = self.transfer(message);
+        let share = self.share(encoder, &transfer, message.place.len)?;
         let settled = self.settings.is_settled_on_send(message.settled);
         if !settled {
             self.may_add()?;
         }
-        let share = frame.saturating_sub(4).saturating_sub(size);
         Ok(Plan {
             transfer,
             share,
@@ -153,14 +132,7 @@ impl<'a> SenderLink<'a> {
         ensures handed_over { HandedOver self.old plan.now message.now pool.now (S.model sink.old) result self.new (S.model sink.new) }
         ensures uncollected { IfOk result Uncollected }
     {
-        let end = message.place.start + message.place.len;
-        split(
-            sink,
-            &pool[message.place.start..end],
-            plan.share,
-            self.input_handle.unwrap_or(0),
-            &plan.transfer,
-        )?;
+        self.put(sink, pool, &message.place, plan.share, &plan.transfer)?;
         let number = self.flow_state.delivery_count;
         if plan.settled {
             self.flow_state.consume();

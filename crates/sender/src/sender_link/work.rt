@@ -1,0 +1,160 @@
+// Working off what came back with the link, one item a call.
+ghost use Rattle.std.specs.Prelude.{◌≡◌, ◌+◌, ◌≤◌, ◌∷◌, false, length, drop};
+ghost use Rattle.link.specs.Calls.{Work};
+ghost use Rattle.link.specs.Rows.{gated, row};
+ghost use Rattle.link.specs.Sending.{carrier, handled};
+ghost use Rattle.link.specs.Working.{working, coming_back, resume_task, restate_task, abort_task, settling_task};
+ghost use Rattle.unsettled.specs.Messages.{outside};
+ghost use Rattle.sender.specs.Works.{Inside, Finished, ItemDone, Works};
+
+use super::SenderLink;
+use amqp::error::{LinkStateError, SendError};
+use amqp::header::Transfer;
+use amqp::state::{DeliveryState, Received};
+use amqp::tag::DeliveryTag;
+use codec::encoder::Encoder;
+use link::resumption::{Progress, ResumingDelivery, Task};
+use sections::section::split_off_at_section_and_offset;
+use sink::sink::Sink;
+use unsettled::message::{Place, UnsettledMessage};
+use unsettled::slot::Slot;
+
+impl<'a> SenderLink<'a> {
+    fn is_working(&self) -> bool
+        ensures { result ≡ working self.now }
+    {
+        self.local_state.may_work() && self.has_handles()
+    }
+
+    // The transfer of a delivery that comes back, under its old tag.
+    fn returning(
+        &self,
+        tag: DeliveryTag,
+        message_format: u32,
+        settled: Option<bool>,
+        state: Option<DeliveryState>,
+        aborted: bool,
+    ) -> Transfer
+        ensures { result ≡ coming_back self.now tag message_format settled state aborted }
+    {
+        Transfer {
+            handle: self.output_handle.unwrap_or(0),
+            delivery_id: None,
+            delivery_tag: Some(tag),
+            message_format: Some(message_format),
+            settled,
+            more: false,
+            state,
+            resume: true,
+            aborted,
+            batchable: false,
+        }
+    }
+
+    // From the place that the peer came to, or from the start where that is not found; the entry keeps what goes out.
+    fn resuming(&self, slot: &Slot<UnsettledMessage>, peer: Received, pool: &[u8]) -> Task
+        requires { slot.now.entry.place.start + slot.now.entry.place.len ≤ length pool.now }
+        ensures value { result ≡ resume_task self.now pool.now slot.now peer }
+        ensures inside { Inside result pool.now }
+    {
+        let Place { start, len } = slot.entry.place;
+        let found = split_off_at_section_and_offset(&pool[start..start + len], &peer);
+        let from = found.unwrap_or(0);
+        let reached = found.map_or(
+            Received {
+                section_number: 0,
+                section_offset: 0,
+            },
+            |_| peer,
+        );
+        let place = Place {
+            start: start + from,
+            len: len - from,
+        };
+        let state = Some(DeliveryState::Received(reached));
+        let entry = UnsettledMessage {
+            place,
+            state: None,
+            ..slot.entry
+        };
+        Task {
+            transfer: self.returning(slot.tag, entry.message_format, Some(false), state, false),
+            payload: place,
+            joins: Some(Slot {
+                tag: slot.tag,
+                entry,
+            }),
+            ends: None,
+        }
+    }
+
+    // All of the message, with the outcome that stands here.
+    fn restating(&self, slot: &Slot<UnsettledMessage>) -> Task
+        ensures { result ≡ restate_task self.now slot.now }
+    {
+        let UnsettledMessage {
+            place,
+            state,
+            message_format,
+            ..
+        } = slot.entry;
+        Task {
+            transfer: self.returning(slot.tag, message_format, Some(false), state, false),
+            payload: place,
+            joins: Some(*slot),
+            ends: None,
+        }
+    }
+
+    fn aborting(&self, slot: &Slot<UnsettledMessage>) -> Task
+        ensures { result ≡ abort_task self.now slot.now }
+    {
+        Task {
+            transfer: self.returning(slot.tag, slot.entry.message_format, None, None, true),
+            payload: Place::default(),
+            joins: None,
+            ends: Some(slot.entry.ticket),
+        }
+    }
+
+    fn settling(&self, tag: DeliveryTag, message_format: u32, outcome: DeliveryState) -> Task
+        ensures { result ≡ settling_task self.now tag message_format outcome }
+    {
+        Task {
+            transfer: self.returning(tag, message_format, Some(true), Some(outcome), false),
+            payload: Place::default(),
+            joins: None,
+            ends: None,
+        }
+    }
+
+    // A delivery that waits to be sent again has its turn in the resend list.
+    fn postpone(&mut self, slot: Slot<UnsettledMessage>) -> Result<Progress, SendError>
+        requires { slice_get self.old.held.resume 0 ≡ Some (ResumingDelivery.Resend slot) }
+        ensures answer { result ≡ gated (row (resend_full self.old) TableFull) Worked }
+        ensures link { self.new ≡ unless (row (resend_full self.old) TableFull) self.old (postponed self.old slot) }
+    {
+        if self.resend.is_full() {
+            return Err(SendError::TableFull);
+        }
+        let _room = self.resend.push(slot);
+        let _item = self.resume.pop_front();
+        Ok(Progress::Worked)
+    }
+
+    // Carries a task out, and takes its item off the list.
+    fn carry_first<S: Sink, E: Encoder>(
+        &mut self,
+        sink: &mut S,
+        encoder: &E,
+        pool: &[u8],
+        task: &Task,
+    ) -> Result<Progress, SendError>
+        requires { Inside task.now pool.now }
+        ensures { Finished self.old (carrier (E.bytes encoder.now) pool.now (S.model sink.old)) task.now result self.new (S.model sink.new) }
+    {
+        self.carry(sink, encoder, pool, task)?;
+        let _item = self.resume.pop_front();
+        Ok(Progress::Worked)
+    }
+}
