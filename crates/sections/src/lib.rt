@@ -32,8 +32,8 @@ pub fn is_section_header(b0: u8, b1: u8, b2: u8) -> bool
     )
 }
 
-// Where a place lies in a message: in the section that it says, as many bytes past the section's first. At least three bytes
-// are left there, since the last two can begin no section.
+// Where a place lies in a message: in the section that it says, as many bytes past the section's first. Only positions where a
+// section could begin count: three bytes are left there at least.
 pub fn split_off_at_section_and_offset(message: &[u8], place: &Received) -> Option<usize>
     ensures value { result ≡ start_of message.now place.now }
     ensures one { OnePosition message.now place.now result }

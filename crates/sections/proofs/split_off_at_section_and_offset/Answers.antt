@@ -29,7 +29,7 @@ returns-then-i-start c =
       | then-is_section_header w ↦ rw (w.begun-is, w.start-is ∙ steps.1) (begun_here msg i c.loop-i.begun c.loop-i.start v.begun (sym header ∙ w.if-is_section_header.true))
       | else-is_section_header w ↦ rw (w.begun-is, w.start-is) (begun_not_here msg i c.loop-i.begun c.loop-i.start v.begun (sym header ∙ w.if-is_section_header.false))
     ] in
-    let there = lies_here msg place i _ _ next (c.if-begun-from.true ∙ ap (λ n. n + 1) c.from.ensures) (omega (arith, steps.1, c.if-i-start.true)) in
+    let there = lies_here msg place i _ _ next (omega (arith, c.if-begun-from.true, c.from.ensures)) (omega (arith, steps.1, c.if-i-start.true)) in
     let e = ap Some steps.1 ∙ sym (left_found msg place i inside there) ∙ v.left in
     record { value = e; one = found_is_the_one msg place _ e }
 
