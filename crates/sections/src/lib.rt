@@ -4,6 +4,8 @@
 ghost use Rattle.std.specs.Prelude.{◌≡◌};
 ghost use Rattle.sections.specs.Sections.{section_header, start_of, OnePosition};
 
+use amqp::state::Received;
+
 // The first byte of a described value, and the codes of a descriptor in one byte and in eight (Part 1, 1.6).
 const DESCRIBED_TYPE: u8 = 0x00;
 
@@ -28,4 +30,27 @@ pub fn is_section_header(b0: u8, b1: u8, b2: u8) -> bool
             HEADER_CODE..=FOOTER_CODE,
         )
     )
+}
+
+// Where a place lies in a message: in the section that it says, as many bytes past the section's first. Only positions where a
+// section could begin count: three bytes are left there at least.
+pub fn split_off_at_section_and_offset(message: &[u8], place: &Received) -> Option<usize>
+    ensures value { result ≡ start_of message.now place.now }
+    ensures one { OnePosition message.now place.now result }
+{
+    // The sections that have begun, and where the last of them did.
+    let mut begun = 0;
+    let mut start = 0;
+    for (i, bytes) in message.windows(3).enumerate() {
+        if is_section_header(bytes[0], bytes[1], bytes[2]) {
+            begun += 1;
+            start = i;
+        }
+        if begun == u64::from(place.section_number) + 1
+            && (i - start) as u64 == place.section_offset
+        {
+            return Some(i);
+        }
+    }
+    None
 }

@@ -1,0 +1,3 @@
+pub mod Counting
+pub mod Positions
+pub mod Searching
