@@ -1,3 +1,4 @@
 pub mod Carrying
+pub mod Working
 pub mod Attaching
 pub mod Sending

@@ -1,7 +1,8 @@
 -- What a sender link in its lent memory holds.
-use Rattle.std.specs.Prelude.{ℕ}
+use Rattle.std.specs.Prelude.{ℕ, List}
 use Rattle.unsettled.specs.Tables.{held, room}
 use Rattle.unsettled.specs.Worklists.{items, space}
+use Rattle.link.specs.declared.resumption.ResumingDelivery.{ResumingDelivery}
 use Rattle.link.specs.declared.settings.Settings.{Settings}
 use Rattle.link.specs.Seats.{seated}
 use Rattle.link.specs.Views.{View, Rooms}
@@ -32,6 +33,20 @@ with_settings s v =
       settings = s;
       flow = v.flow;
       held = v.held;
+      rooms = v.rooms;
+      seats = v.seats;
+    }
+
+-- the same link with these items left
+abbrev pub resuming_with : List ResumingDelivery → View → View
+resuming_with is v =
+    record {
+      state = v.state;
+      output = v.output;
+      input = v.input;
+      settings = v.settings;
+      flow = v.flow;
+      held = record { table = v.held.table; resume = is; resend = v.held.resend };
       rooms = v.rooms;
       seats = v.seats;
     }

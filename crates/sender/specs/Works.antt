@@ -1,5 +1,5 @@
 -- A step through the resume list.
-use Rattle.std.specs.Prelude.{ℕ, ◌+◌, ◌≤◌, List, [], ◌∷◌, length, drop, Result}
+use Rattle.std.specs.Prelude.{ℕ, ◌+◌, ◌≤◌, List, [], ◌∷◌, ◌++◌, length, drop, Result}
 use Rattle.amqp.specs.declared.error.SendError.{SendError}
 use Rattle.sink.specs.Frames.{Model}
 use Rattle.link.specs.declared.resumption.Progress.{Progress}
@@ -9,7 +9,8 @@ use Rattle.link.specs.declared.resumption.ResumingDelivery.TheVariants.{Resend, 
 use Rattle.link.specs.declared.resumption.Task.{Task}
 use Rattle.link.specs.Rows.{first}
 use Rattle.link.specs.Sending.{Carrier, message}
-use Rattle.link.specs.Views.{View}
+use Rattle.link.specs.Turns.{Turn, holding}
+use Rattle.link.specs.Views.{View, Entry}
 use Rattle.link.specs.Working.{start_in, work_refusal, worked, worked_frames, progress, task_rows, task_frames, task_payload, tasked, item_rows, item_turn, item_frames}
 use Rattle.sender.specs.Puts.{Puts}
 
@@ -24,6 +25,10 @@ Carried v c t r w s = Puts (first (task_rows v c t)) tt (tasked v v.held.resume 
 -- and now it is off the list
 abbrev pub Finished : View → Carrier → Task → Result Progress SendError → View → Model → Type 0
 Finished v c t r w s = Puts (first (task_rows v c t)) Worked (tasked v (drop 1 v.held.resume) t) (task_frames v c t) (task_payload c t) v c r w s
+
+-- a delivery that is to be sent again joins the resend list
+abbrev pub postponed : View → Entry → Turn
+postponed v e = holding v (record { table = v.held.table; resume = drop 1 v.held.resume; resend = v.held.resend ++ e ∷ [] }) []
 
 -- what the first item carries: the message from where the peer stands, or from its start; an abort and a settling nothing
 abbrev pub item_payload : Carrier → List ResumingDelivery → List ℕ

@@ -1,11 +1,13 @@
 // Working off what came back with the link, one item a call.
-ghost use Rattle.std.specs.Prelude.{◌≡◌, ◌+◌, ◌≤◌, ◌∷◌, false, length, drop};
-ghost use Rattle.link.specs.Calls.{Work};
-ghost use Rattle.link.specs.Rows.{gated, row};
-ghost use Rattle.link.specs.Sending.{carrier, handled};
-ghost use Rattle.link.specs.Working.{working, coming_back, resume_task, restate_task, abort_task, settling_task};
-ghost use Rattle.unsettled.specs.Messages.{outside};
-ghost use Rattle.sender.specs.Works.{Inside, Finished, ItemDone, Works};
+ghost use Rattle.std.specs.Prelude.{◌≡◌, ◌+◌, ◌≤◌, length, drop};
+ghost use Rattle.amqp.specs.declared.error.SendError.TheVariants.{TableFull};
+ghost use Rattle.link.specs.declared.resumption.Progress.TheVariants.{Worked};
+ghost use Rattle.link.specs.Rows.{gated, row, unless};
+ghost use Rattle.link.specs.Sending.{carrier};
+ghost use Rattle.link.specs.Turns.{stay, landed};
+ghost use Rattle.link.specs.Working.{working, coming_back, resume_task, restate_task, abort_task, settling_task, resend_full};
+ghost use Rattle.sender.specs.Views.{resuming_with};
+ghost use Rattle.sender.specs.Works.{Inside, Finished, postponed, Works};
 
 use super::SenderLink;
 use amqp::error::{LinkStateError, SendError};
@@ -14,7 +16,7 @@ use amqp::state::{DeliveryState, Received};
 use amqp::tag::DeliveryTag;
 use codec::encoder::Encoder;
 use link::resumption::{Progress, ResumingDelivery, Task};
-use sections::section::split_off_at_section_and_offset;
+use sections::split_off_at_section_and_offset;
 use sink::sink::Sink;
 use unsettled::message::{Place, UnsettledMessage};
 use unsettled::slot::Slot;
@@ -130,16 +132,22 @@ impl<'a> SenderLink<'a> {
 
     // A delivery that waits to be sent again has its turn in the resend list.
     fn postpone(&mut self, slot: Slot<UnsettledMessage>) -> Result<Progress, SendError>
-        requires { slice_get self.old.held.resume 0 ≡ Some (ResumingDelivery.Resend slot) }
         ensures answer { result ≡ gated (row (resend_full self.old) TableFull) Worked }
-        ensures link { self.new ≡ unless (row (resend_full self.old) TableFull) self.old (postponed self.old slot) }
+        ensures link { self.new ≡ landed self.old (unless (row (resend_full self.old) TableFull) (stay self.old) (postponed self.old slot)) }
     {
         if self.resend.is_full() {
             return Err(SendError::TableFull);
         }
         let _room = self.resend.push(slot);
-        let _item = self.resume.pop_front();
+        self.next_item();
         Ok(Progress::Worked)
+    }
+
+    // The first item is off the list.
+    fn next_item(&mut self)
+        ensures { self.new ≡ resuming_with (drop 1 self.old.held.resume) self.old }
+    {
+        let _item = self.resume.pop_front();
     }
 
     // Carries a task out, and takes its item off the list.
@@ -154,7 +162,7 @@ impl<'a> SenderLink<'a> {
         ensures { Finished self.old (carrier (E.bytes encoder.now) pool.now (S.model sink.old)) task.now result self.new (S.model sink.new) }
     {
         self.carry(sink, encoder, pool, task)?;
-        let _item = self.resume.pop_front();
+        self.next_item();
         Ok(Progress::Worked)
     }
 }
