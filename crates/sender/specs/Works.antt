@@ -1,13 +1,15 @@
 -- A step through the resume list.
 use Rattle.std.specs.Prelude.{ℕ, ◌+◌, ◌≤◌, List, [], ◌∷◌, ◌++◌, length, drop, Result}
 use Rattle.amqp.specs.declared.error.SendError.{SendError}
+use Rattle.amqp.specs.declared.error.SendError.TheVariants.{OutsidePool}
 use Rattle.sink.specs.Frames.{Model}
+use Rattle.unsettled.specs.Messages.{outside}
 use Rattle.link.specs.declared.resumption.Progress.{Progress}
 use Rattle.link.specs.declared.resumption.Progress.TheVariants.{Worked}
 use Rattle.link.specs.declared.resumption.ResumingDelivery.{ResumingDelivery}
 use Rattle.link.specs.declared.resumption.ResumingDelivery.TheVariants.{Resend, Resume, Abort, RestateOutcome, Settling}
 use Rattle.link.specs.declared.resumption.Task.{Task}
-use Rattle.link.specs.Rows.{first}
+use Rattle.link.specs.Rows.{row, first}
 use Rattle.link.specs.Sending.{Carrier, message}
 use Rattle.link.specs.Turns.{Turn, holding}
 use Rattle.link.specs.Views.{View, Entry}
@@ -25,6 +27,12 @@ Carried v c t r w s = Puts (first (task_rows v c t)) tt (tasked v v.held.resume 
 -- and now it is off the list
 abbrev pub Finished : View → Carrier → Task → Result Progress SendError → View → Model → Type 0
 Finished v c t r w s = Puts (first (task_rows v c t)) Worked (tasked v (drop 1 v.held.resume) t) (task_frames v c t) (task_payload c t) v c r w s
+
+-- the same of a task whose message has to lie in the pool
+abbrev pub MessageDone : Entry → Task → View → Carrier → Result Progress SendError → View → Model → Type 0
+MessageDone e t v c r w s =
+    Puts (first (row (outside e.entry.place (length c.pool)) OutsidePool ∷ task_rows v c t)) Worked (tasked v (drop 1 v.held.resume) t)
+    (task_frames v c t) (task_payload c t) v c r w s
 
 -- a delivery that is to be sent again joins the resend list
 abbrev pub postponed : View → Entry → Turn

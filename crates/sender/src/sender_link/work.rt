@@ -1,5 +1,6 @@
 // Working off what came back with the link, one item a call.
-ghost use Rattle.std.specs.Prelude.{◌≡◌, ◌+◌, ◌≤◌, length, drop};
+ghost use Rattle.std.specs.Prelude.{◌≡◌, ◌+◌, ◌≤◌, length, drop, Some};
+ghost use Rattle.std.specs.List.{slice_get};
 ghost use Rattle.amqp.specs.declared.error.SendError.TheVariants.{TableFull};
 ghost use Rattle.link.specs.declared.resumption.Progress.TheVariants.{Worked};
 ghost use Rattle.link.specs.Rows.{gated, row, unless};
@@ -7,7 +8,7 @@ ghost use Rattle.link.specs.Sending.{carrier};
 ghost use Rattle.link.specs.Turns.{stay, landed};
 ghost use Rattle.link.specs.Working.{working, coming_back, resume_task, restate_task, abort_task, settling_task, resend_full};
 ghost use Rattle.sender.specs.Views.{resuming_with};
-ghost use Rattle.sender.specs.Works.{Inside, Finished, postponed, Works};
+ghost use Rattle.sender.specs.Works.{Inside, Finished, MessageDone, ItemDone, postponed, Works};
 
 use super::SenderLink;
 use amqp::error::{LinkStateError, SendError};
@@ -164,5 +165,89 @@ impl<'a> SenderLink<'a> {
         self.carry(sink, encoder, pool, task)?;
         self.next_item();
         Ok(Progress::Worked)
+    }
+
+    fn resume_first<S: Sink, E: Encoder>(
+        &mut self,
+        sink: &mut S,
+        encoder: &E,
+        pool: &[u8],
+        slot: &Slot<UnsettledMessage>,
+        peer: Received,
+    ) -> Result<Progress, SendError>
+        ensures { MessageDone slot.now (resume_task self.old pool.now slot.now peer) self.old (carrier (E.bytes encoder.now) pool.now (S.model sink.old)) result self.new (S.model sink.new) }
+    {
+        if slot.entry.place.is_outside(pool) {
+            return Err(SendError::OutsidePool);
+        }
+        let task = self.resuming(slot, peer, pool);
+        self.carry_first(sink, encoder, pool, &task)
+    }
+
+    fn restate_first<S: Sink, E: Encoder>(
+        &mut self,
+        sink: &mut S,
+        encoder: &E,
+        pool: &[u8],
+        slot: &Slot<UnsettledMessage>,
+    ) -> Result<Progress, SendError>
+        ensures { MessageDone slot.now (restate_task self.old slot.now) self.old (carrier (E.bytes encoder.now) pool.now (S.model sink.old)) result self.new (S.model sink.new) }
+    {
+        if slot.entry.place.is_outside(pool) {
+            return Err(SendError::OutsidePool);
+        }
+        let task = self.restating(slot);
+        self.carry_first(sink, encoder, pool, &task)
+    }
+
+    fn work_on<S: Sink, E: Encoder>(
+        &mut self,
+        sink: &mut S,
+        encoder: &E,
+        pool: &[u8],
+        item: &ResumingDelivery,
+    ) -> Result<Progress, SendError>
+        requires { slice_get self.old.held.resume 0 ≡ Some item.now }
+        ensures { ItemDone self.old.held.resume self.old (carrier (E.bytes encoder.now) pool.now (S.model sink.old)) result self.new (S.model sink.new) }
+    {
+        match *item {
+            ResumingDelivery::Resend(slot) => self.postpone(slot),
+            ResumingDelivery::Resume(slot, peer) => {
+                self.resume_first(sink, encoder, pool, &slot, peer)
+            }
+            ResumingDelivery::Abort(slot) => {
+                let task = self.aborting(&slot);
+                self.carry_first(sink, encoder, pool, &task)
+            }
+            ResumingDelivery::RestateOutcome(slot) => {
+                self.restate_first(sink, encoder, pool, &slot)
+            }
+            ResumingDelivery::Settling {
+                tag,
+                message_format,
+                outcome,
+            } => {
+                let task = self.settling(tag, message_format, outcome);
+                self.carry_first(sink, encoder, pool, &task)
+            }
+        }
+    }
+
+    // Does what is to be done with the first delivery that came back, or says that none is left.
+    pub fn work<S: Sink, E: Encoder>(
+        &mut self,
+        sink: &mut S,
+        encoder: &E,
+        pool: &[u8],
+    ) -> Result<Progress, SendError>
+        ensures works { Works self.old (carrier (E.bytes encoder.now) pool.now (S.model sink.old)) result self.new (S.model sink.new) }
+    {
+        if !self.is_working() {
+            return Err(SendError::LinkState(LinkStateError::IllegalState));
+        }
+        match self.resume.first() {
+            None => Ok(Progress::Done),
+            Some(item) => self.work_on(sink, encoder, pool, &item),
+        }
     }
 }
