@@ -1,9 +1,6 @@
 pub mod Tables
 pub mod Entries
+pub mod Items
+pub mod Words
 pub mod Onward
-pub mod Seats
-pub mod Sound
-pub mod Lived
-pub mod Telling
-pub mod Going
-pub mod Runs
+pub mod Returning
