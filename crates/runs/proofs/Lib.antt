@@ -4,3 +4,10 @@ pub mod Items
 pub mod Words
 pub mod Onward
 pub mod Returning
+pub mod Seats
+pub mod Tags
+pub mod Tallies
+pub mod Sound
+pub mod Calls
+pub mod Tickets
+pub mod Lived
