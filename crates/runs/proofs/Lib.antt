@@ -11,3 +11,4 @@ pub mod Sound
 pub mod Calls
 pub mod Tickets
 pub mod Lived
+pub mod Telling
