@@ -12,3 +12,4 @@ pub mod Calls
 pub mod Tickets
 pub mod Lived
 pub mod Telling
+pub mod Going
