@@ -1,8 +1,12 @@
 pub mod Tables
 pub mod Entries
+pub mod Tags
+pub mod Tallies
+pub mod Held
+pub mod Sound
+pub mod Never
 pub mod Onward
 pub mod Seats
-pub mod Sound
 pub mod Lived
 pub mod Telling
 pub mod Going

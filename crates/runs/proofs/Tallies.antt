@@ -1,5 +1,5 @@
 -- How many entries lists have, in all and of a tag, under the moves of an attach, a disposition and a detach.
-use Rattle.std.proofs.Common.{◌≡◌, ℕ, ◌+◌, ◌≤◌, false, List, [], ◌∷◌, ◌++◌, length, is_some, refl, ap, ◌∙◌, arith, length-append}
+use Rattle.std.proofs.Common.{◌≡◌, ◌+◌, ◌≤◌, false, List, [], ◌∷◌, ◌++◌, length, is_some, refl, ap, ◌∙◌, arith, length-append}
 use Rattle.std.specs.List.{flat_map}
 use Rattle.amqp.specs.declared.tag.DeliveryTag.{DeliveryTag}
 use Rattle.unsettled.specs.declared.message.UnsettledMessage.{UnsettledMessage}
@@ -84,7 +84,7 @@ pub absent : (t : DeliveryTag) (xs : List Entry) → tally t xs ≡ 0 → is_som
 absent t [] h = refl
 absent t (x ∷ xs) h = let ih = absent t xs in grind arith
 
-own_tag : (t : DeliveryTag) → one (same_tag t t) ≡ 1
+pub own_tag : (t : DeliveryTag) → one (same_tag t t) ≡ 1
 own_tag t = ap one ((same_tag_decides t t).1 refl)
 
 pub no_clash : (es xs : List Entry) → ((t : DeliveryTag) → tally t xs + tally t es ≤ 1) → clash es xs ≡ false
