@@ -1,5 +1,6 @@
 -- What becomes of an unsettled delivery when the link comes back (Part 2, 2.6.13): its state here and the peer's decide.
 use Rattle.std.specs.Prelude.{Bool, true, false, cond, List, [], ◌∷◌, Some, None, Option}
+use Rattle.std.specs.List.{filter_map}
 use Rattle.amqp.specs.declared.state.DeliveryState.{DeliveryState}
 use Rattle.amqp.specs.declared.state.DeliveryState.TheVariants.{Received, Accepted, Rejected, Released, Modified}
 use Rattle.amqp.specs.declared.state.Received.{Received as Reached}
@@ -117,11 +118,14 @@ end_for (Settle s) e = ending e s ∷ []
 abbrev pub end_of : Attach → Entry → List Ending
 end_of a e = end_for (judge a e) e
 
--- the deliveries of a resume list, in order; a settling is none
+-- the delivery of an item; a settling is none
+abbrev pub delivery_of : ResumingDelivery → Option Entry
+delivery_of (item.Resend e) = Some e
+delivery_of (item.Resume e p) = Some e
+delivery_of (item.Abort e) = Some e
+delivery_of (item.RestateOutcome e) = Some e
+delivery_of (item.Settling t f o) = None
+
+-- the deliveries of a resume list, in order
 abbrev pub listed : List ResumingDelivery → List Entry
-listed [] = []
-listed (item.Resend e ∷ is) = e ∷ listed is
-listed (item.Resume e p ∷ is) = e ∷ listed is
-listed (item.Abort e ∷ is) = e ∷ listed is
-listed (item.RestateOutcome e ∷ is) = e ∷ listed is
-listed (item.Settling t f o ∷ is) = listed is
+listed is = filter_map delivery_of is

@@ -1,6 +1,6 @@
 // What is to be done with a delivery after the link came back (Part 2, 2.6.13).
 ghost use Rattle.std.specs.Prelude.{◌≡◌};
-ghost use Rattle.link.specs.Resuming.{same_kind, resumption};
+ghost use Rattle.link.specs.Resuming.{same_kind, resumption, delivery_of};
 
 use amqp::header::Transfer;
 use amqp::state::{DeliveryState, Received};
@@ -56,6 +56,21 @@ pub enum Progress {
     // Nothing was left.
     Done,
     Worked,
+}
+
+impl ResumingDelivery {
+    // The delivery that comes back, if one stands behind it.
+    pub fn delivery(&self) -> Option<Slot<UnsettledMessage>>
+        ensures { result ≡ delivery_of self.now }
+    {
+        match self {
+            ResumingDelivery::Resend(slot)
+            | ResumingDelivery::Resume(slot, _)
+            | ResumingDelivery::Abort(slot)
+            | ResumingDelivery::RestateOutcome(slot) => Some(*slot),
+            ResumingDelivery::Settling { .. } => None,
+        }
+    }
 }
 
 // Two outcomes are of one kind, whatever their condition or marks.
