@@ -2,52 +2,41 @@
 -- to come, and its count does not wrap.
 use Rattle.std.proofs.Common.{◌≡◌, ℕ, ◌+◌, ◌<◌, ◌≤◌, Bool, true, false, ◌||◌, List, [], ◌∷◌, cond, ◌++◌, length, Some, None, Option, sym, refl, ap, subst, arith, length-append}
 use Rattle.std.proofs.lemmas.Bool.Decides.{nat_tests}
-use Rattle.std.specs.List.{AllByRecursion, flat_map}
-use Rattle.std.specs.Prelude.{not, ◌&&◌, ◌==◌, nat_le}
-use Rattle.amqp.specs.declared.condition.AmqpError.{AmqpError}
-use Rattle.amqp.specs.declared.error.ApplyRemoteDetachError.{ApplyRemoteDetachError}
+use Rattle.std.specs.List.{AllByRecursion}
+use Rattle.std.specs.Prelude.{not, ◌==◌}
 use Rattle.amqp.specs.declared.error.LinkStateError.TheVariants.{IllegalState}
 use Rattle.amqp.specs.declared.error.SendError.TheVariants as fault
-use Rattle.amqp.specs.declared.error.SenderAttachError.{SenderAttachError}
 use Rattle.amqp.specs.declared.state.DeliveryState.{DeliveryState}
 use Rattle.amqp.specs.declared.tag.DeliveryTag.{DeliveryTag}
 use Rattle.amqp.specs.Tags.{tag_of}
 use Rattle.unsettled.specs.declared.message.UnsettledMessage.{UnsettledMessage}
-use Rattle.unsettled.specs.Tables.{same_tag, entry_of, look, put_in, swap_removed}
+use Rattle.unsettled.specs.Tables.{same_tag, entry_of, look}
 use Rattle.unsettled.proofs.Same.{same_tag_decides}
-use Rattle.link.specs.declared.attach.Attach.{Attach as RemoteAttach}
 use Rattle.link.specs.declared.delivery.Disposal.{Disposal}
 use Rattle.link.specs.declared.delivery.Sendable.{Sendable}
 use Rattle.link.specs.declared.flow.LinkFlowState.{LinkFlowState}
 use Rattle.link.specs.declared.resumption.ResumingDelivery.{ResumingDelivery}
 use Rattle.link.specs.declared.resumption.ResumingDelivery.TheVariants as item
-use Rattle.link.specs.Attaching.{open_refusal, opened, attach_refusal, late_refusal, attached, resumed}
+use Rattle.link.specs.Attaching.{open_refusal, opened, attach_refusal, late_refusal, attached}
 use Rattle.link.specs.Calls.{Call, Open, Attach, Flow, Send, Disposition, Dispose, Work, Resend, Detach, Look, Collect, turn}
 use Rattle.link.specs.Credit.{credit_after, drained}
-use Rattle.link.specs.Detaching.{put_back, detach_refusal, detached}
+use Rattle.link.specs.Detaching.{detach_refusal, detached}
 use Rattle.link.specs.Disposing.{disposed, disposed_at, disposed_as, recording, dispose_refusal, sends_settled, disposed_here, disposed_here_at, disposed_here_as}
 use Rattle.link.specs.Outcomes.{ended}
 use Rattle.link.specs.Resending.{again, sent_again, again_rows, again_as, again_turn, resend_refusal, resent}
-use Rattle.link.specs.Resuming.{listed, item_of}
+use Rattle.link.specs.Resuming.{listed}
 use Rattle.link.specs.Rows.{row, first, unless}
-use Rattle.link.specs.Sending.{Carrier, first_sent, goes_settled, next_tag, busy, none_left, ready, own_rows, with_table, send_refusal, sent, sent_as}
+use Rattle.link.specs.Sending.{Carrier, first_sent, goes_settled, next_tag, busy, none_left, ready, own_rows, send_refusal, sent, sent_as}
 use Rattle.link.specs.Turns.{Turn, stay, landed}
-use Rattle.link.specs.Views.{View, Held, Entry}
-use Rattle.link.specs.Working.{work_refusal, item_turn, worked, cut_to, start_in}
+use Rattle.link.specs.Views.{View, Entry}
+use Rattle.link.specs.Working.{work_refusal, item_turn, worked}
 use Rattle.link.proofs.Rows.{all_none, row_off}
 use Rattle.link.proofs.Sending.{clear, own_clear}
 use Rattle.runs.specs.Runs.{Run, made, ◌▹◌, after, one}
-use Rattle.runs.proofs.Tables.{found, put_found, swap_found}
-use Rattle.runs.proofs.Entries.{tally, tally_++, tally_without, tally_exchange}
+use Rattle.runs.proofs.Tables.{found}
+use Rattle.runs.proofs.Entries.{tally, tally_++}
+use Rattle.runs.proofs.Held.{entries, tags, Fewer, same_held, attached_fewer, removed_fewer, put_fewer, worked_fewer, detached_fewer}
 use Rattle.runs.proofs.Tags.{tags_apart}
-use Rattle.runs.proofs.Tallies.{length_without, length_exchanged, tally_listed, length_listed, tally_judged, length_judged}
-
--- how many deliveries are held, in the table and in both lists, and how many of them under a tag
-abbrev pub entries : Held → ℕ
-entries h = length h.table + (length (listed h.resume) + length h.resend)
-
-abbrev pub tags : DeliveryTag → Held → ℕ
-tags t h = tally t h.table + (tally t (listed h.resume) + tally t h.resend)
 
 pub record Sound (v : View) : Type 0 where
   -- all that is held has room in the table, and so in the resend list
@@ -67,14 +56,7 @@ pub record Steady (v : View) (u : Turn) : Type 0 where
   pub keeps : Sound (landed v u)
   pub rises : v.flow.delivery_count ≤ u.flow.delivery_count
 
--- no more is held than before
-record Fewer (g h : Held) : Type 0 where
-  pub entries : entries g ≤ entries h
-  pub tags : (t : DeliveryTag) → tags t g ≤ tags t h
-
-same_held : (g h : Held) → g ≡ h → Fewer g h
-same_held g h e = record { entries = omega (arith, ap entries e); tags = λ t. omega (arith, ap (tags t) e) }
-
+-- no more is held, and the count is no smaller
 falls : (v : View) (u : Turn) → Sound v → Fewer u.held v.held → v.flow.delivery_count ≤ u.flow.delivery_count
     → u.flow.delivery_count + u.flow.link_credit ≤ 4294967295 → Steady v u
 falls v u h f r s =
@@ -97,7 +79,10 @@ shifts v u h e f =
 still : (v : View) (u : Turn) → Sound v → u.held ≡ v.held → u.flow ≡ v.flow → Steady v u
 still v u h e f = shifts v u h f (same_held u.held v.held e)
 
--- the next tag joins
+stays : (v : View) → Sound v → Steady v (stay v)
+stays v h = still v (stay v) h refl refl
+
+-- one more may be held, under the next tag
 gains : (v : View) (u : Turn) → Sound v → entries u.held ≤ v.rooms.table → ((t : DeliveryTag) → tags t u.held ≤ tags t v.held + one (same_tag (next_tag v) t))
     → u.flow.delivery_count ≡ v.flow.delivery_count + 1 → u.flow.delivery_count + u.flow.link_credit ≤ 4294967295 → Steady v u
 gains v u h r w c s =
@@ -107,8 +92,8 @@ gains v u h r w c s =
         resends = h.resends;
         single = λ t. go t (same_tag (next_tag v) t) refl (w t);
         unused = λ n k b.
-          let z : one (same_tag (next_tag v) (tag_of n)) ≡ 0 = ap one (tags_apart v.flow.delivery_count n (omega arith) b) in
-          omega (arith, w (tag_of n), h.unused n (omega arith) b);
+            let z : one (same_tag (next_tag v) (tag_of n)) ≡ 0 = ap one (tags_apart v.flow.delivery_count n (omega arith) b) in
+            omega (arith, w (tag_of n), h.unused n (omega arith) b);
         span = s;
       };
       rises = omega arith;
@@ -121,9 +106,9 @@ gains v u h r w c s =
         let z : tags t v.held ≡ 0 = subst (λ (x : DeliveryTag). tags x v.held ≡ 0) e (h.unused v.flow.delivery_count (omega arith) (omega (arith, h.span))) in
         omega arith
 
-pub either : {E : Type 0} (P : Turn → Type 0) (o : Option E) (a b : Turn) → (o ≡ None → P b) → P a → P (unless o a b)
-either P None a b h k = h refl
-either P (Some e) a b h k = k
+accepted : {E : Type 0} (v : View) (o : Option E) (u : Turn) → Sound v → (o ≡ None → Steady v u) → Steady v (unless o (stay v) u)
+accepted v None u h k = k refl
+accepted v (Some e) u h k = stays v h
 
 -- ---- flow
 
@@ -135,19 +120,6 @@ drained_span : (b : Bool) (credit : ℕ) (f : LinkFlowState) → f.delivery_coun
     → ((drained b credit f).delivery_count + (drained b credit f).link_credit ≤ 4294967295) × (f.delivery_count ≤ (drained b credit f).delivery_count)
 drained_span true credit f h = (omega arith, omega arith)
 drained_span false credit f h = (h, omega arith)
-
--- ---- attach
-
-resumed_fewer : (v : View) (a : RemoteAttach) → Fewer (resumed v a) v.held
-resumed_fewer v a =
-    record {
-      entries = omega (arith, length_listed v.held.resume (flat_map (item_of a) v.held.table), length_judged a v.held.table);
-      tags = λ t. omega (arith, tally_listed t v.held.resume (flat_map (item_of a) v.held.table), tally_judged t a v.held.table);
-    }
-
-attached_fewer : (v : View) (a : RemoteAttach) (o : Option SenderAttachError) → Fewer (unless o v.held (resumed v a)) v.held
-attached_fewer v a (Some e) = same_held v.held v.held refl
-attached_fewer v a None = resumed_fewer v a
 
 -- ---- send
 
@@ -181,77 +153,34 @@ sent_steady v c m false q o h =
 
 -- ---- dispositions
 
--- the tag that finds an entry is the entry's
-same_as : (t : DeliveryTag) (x : Entry) → same_tag x.tag t ≡ true → x.tag ≡ t
-same_as t x q = (same_tag_decides x.tag t).0 q
-
--- its table loses an entry, or one of its entries is exchanged
-removed_fewer : (v : View) (t : DeliveryTag) (x : Entry) → found t v.held.table ≡ Some x → Fewer (with_table (swap_removed t v.held.table) v.held) v.held
-removed_fewer v t x f =
-    let e = swap_found t v.held.table x f in
-    record {
-      entries = omega (arith, length_without t v.held.table, ap length e);
-      tags = λ u. omega (arith, tally_without u t v.held.table, ap (tally u) e);
-    }
-
-put_fewer : (v : View) (t : DeliveryTag) (m : UnsettledMessage) (x : Entry) → found t v.held.table ≡ Some x → Fewer (with_table (put_in t m v.held.table) v.held) v.held
-put_fewer v t m x f =
-    let e = put_found t m v.held.table x f in
-    record {
-      entries = omega (arith, length_exchanged t m v.held.table, ap length e);
-      tags = λ u. omega (arith, tally_exchange u t m v.held.table (same_as t), ap (tally u) e);
-    }
-
-disposed_found : (v : View) (t : DeliveryTag) (b : Bool) (s : Option DeliveryState) (x : Entry) → found t v.held.table ≡ Some x → Sound v → Steady v (disposed_as b t s x.entry v)
-disposed_found v t true s x f h = shifts v (disposed_as true t s x.entry v) h refl (removed_fewer v t x f)
-disposed_found v t false s x f h = shifts v (disposed_as false t s x.entry v) h refl (put_fewer v t (recording s x.entry) x f)
+-- a turn by the entry that a tag finds
+by_found : (v : View) (t : DeliveryTag) (f : Option UnsettledMessage → Turn) → Steady v (f None) → ((x : Entry) → found t v.held.table ≡ Some x → Steady v (f (Some x.entry)))
+    → Steady v (f (look t v.held.table))
+by_found v t f k l = go (found t v.held.table) refl
+  where
+    go : (o : Option Entry) → found t v.held.table ≡ o → Steady v (f (look t v.held.table))
+    go None e = subst (λ (o : Option UnsettledMessage). Steady v (f o)) (sym (ap entry_of e)) k
+    go (Some x) e = subst (λ (o : Option UnsettledMessage). Steady v (f o)) (sym (ap entry_of e)) (l x e)
 
 disposed_steady : (v : View) (t : DeliveryTag) (b : Bool) (s : Option DeliveryState) → Sound v → Steady v (disposed v t b s)
-disposed_steady v t b s h = go (found t v.held.table) refl
+disposed_steady v t b s h = by_found v t (λ o. disposed_at o t b s v) (stays v h) (at (b || ended s))
   where
-    go : (o : Option Entry) → found t v.held.table ≡ o → Steady v (disposed v t b s)
-    go None f = subst (λ (o : Option UnsettledMessage). Steady v (disposed_at o t b s v)) (sym (ap entry_of f)) (still v (stay v) h refl refl)
-    go (Some x) f = subst (λ (o : Option UnsettledMessage). Steady v (disposed_at o t b s v)) (sym (ap entry_of f)) (disposed_found v t (b || ended s) s x f h)
-
-here_found : (v : View) (d : Disposal) (b : Bool) (x : Entry) → found d.delivery_tag v.held.table ≡ Some x → Sound v → Steady v (disposed_here_as b d x.entry v)
-here_found v d true x f h = shifts v (disposed_here_as true d x.entry v) h refl (removed_fewer v d.delivery_tag x f)
-here_found v d false x f h = shifts v (disposed_here_as false d x.entry v) h refl (put_fewer v d.delivery_tag (recording (Some d.state) x.entry) x f)
+    at : (b : Bool) (x : Entry) → found t v.held.table ≡ Some x → Steady v (disposed_as b t s x.entry v)
+    at true x f = shifts v (disposed_as true t s x.entry v) h refl (removed_fewer v t x f)
+    at false x f = shifts v (disposed_as false t s x.entry v) h refl (put_fewer v t (recording s x.entry) x f)
 
 here_steady : (v : View) (d : Disposal) → Sound v → Steady v (disposed_here v d)
-here_steady v d h = both (sends_settled v)
+here_steady v d h = sends (sends_settled v)
   where
-    go : (o : Option Entry) → found d.delivery_tag v.held.table ≡ o → Steady v (disposed_here_at (look d.delivery_tag v.held.table) d v)
-    go None f = subst (λ (o : Option UnsettledMessage). Steady v (disposed_here_at o d v)) (sym (ap entry_of f)) (still v (stay v) h refl refl)
-    go (Some x) f = subst (λ (o : Option UnsettledMessage). Steady v (disposed_here_at o d v)) (sym (ap entry_of f)) (here_found v d d.settled x f h)
+    at : (b : Bool) (x : Entry) → found d.delivery_tag v.held.table ≡ Some x → Steady v (disposed_here_as b d x.entry v)
+    at true x f = shifts v (disposed_here_as true d x.entry v) h refl (removed_fewer v d.delivery_tag x f)
+    at false x f = shifts v (disposed_here_as false d x.entry v) h refl (put_fewer v d.delivery_tag (recording (Some d.state) x.entry) x f)
 
-    both : (b : Bool) → Steady v (cond b (stay v) (disposed_here_at (look d.delivery_tag v.held.table) d v))
-    both true = still v (stay v) h refl refl
-    both false = go (found d.delivery_tag v.held.table) refl
+    sends : (b : Bool) → Steady v (cond b (stay v) (disposed_here_at (look d.delivery_tag v.held.table) d v))
+    sends true = stays v h
+    sends false = by_found v d.delivery_tag (λ o. disposed_here_at o d v) (stays v h) (at d.settled)
 
 -- ---- work
-
-worked_fewer : (v : View) (pool : List ℕ) (is : List ResumingDelivery) → v.held.resume ≡ is → Fewer (item_turn v pool is).held v.held
-worked_fewer v pool [] q = same_held v.held v.held refl
-worked_fewer v pool (item.Resend e ∷ is) q =
-    record {
-      entries = omega (arith, ap (λ l. length (listed l)) q, length-append v.held.resend (e ∷ []));
-      tags = λ t. omega (arith, ap (λ l. tally t (listed l)) q, tally_++ t v.held.resend (e ∷ []));
-    }
-worked_fewer v pool (item.Resume e p ∷ is) q =
-    let x = cut_to (start_in pool e.entry.place p) e in
-    record {
-      entries = omega (arith, ap (λ l. length (listed l)) q, length-append v.held.table (x ∷ []));
-      tags = λ t. omega (arith, ap (λ l. tally t (listed l)) q, tally_++ t v.held.table (x ∷ []));
-    }
-worked_fewer v pool (item.Abort e ∷ is) q =
-    record { entries = omega (arith, ap (λ l. length (listed l)) q); tags = λ t. omega (arith, ap (λ l. tally t (listed l)) q) }
-worked_fewer v pool (item.RestateOutcome e ∷ is) q =
-    record {
-      entries = omega (arith, ap (λ l. length (listed l)) q, length-append v.held.table (e ∷ []));
-      tags = λ t. omega (arith, ap (λ l. tally t (listed l)) q, tally_++ t v.held.table (e ∷ []));
-    }
-worked_fewer v pool (item.Settling t f o ∷ is) q =
-    record { entries = omega (arith, ap (λ l. length (listed l)) q); tags = λ u. omega (arith, ap (λ l. tally u (listed l)) q) }
 
 work_flow : (v : View) (pool : List ℕ) (is : List ResumingDelivery) → (item_turn v pool is).flow ≡ v.flow
 work_flow v pool [] = refl
@@ -267,7 +196,7 @@ work_flow v pool (item.Settling t f o ∷ is) = refl
 again_clear : (v : View) (c : Carrier) → resend_refusal v c ≡ None → AllByRecursion (λ o. o ≡ None) (again_rows v c v.held.resend)
 again_clear v c e =
     let n = all_none
-      (row (not (ready v)) (fault.LinkState IllegalState) ∷ row (not (none_left v.held.resume)) fault.ListsNotEmpty ∷ again_rows v c v.held.resend) e in
+    (row (not (ready v)) (fault.LinkState IllegalState) ∷ row (not (none_left v.held.resume)) fault.ListsNotEmpty ∷ again_rows v c v.held.resend) e in
     n.1.1
 
 again_credit : (v : View) (c : Carrier) (e : Entry) (es : List Entry) → AllByRecursion (λ o. o ≡ None) (again_rows v c (e ∷ es)) → 0 < v.flow.link_credit
@@ -287,51 +216,28 @@ again_steady v false e es q k h =
     (omega (arith, h.span)) (omega (arith, h.span))
 
 resent_steady : (v : View) (c : Carrier) (es : List Entry) → v.held.resend ≡ es → AllByRecursion (λ o. o ≡ None) (again_rows v c v.held.resend) → Sound v → Steady v (again_turn v es)
-resent_steady v c [] q n h = still v (stay v) h refl refl
+resent_steady v c [] q n h = stays v h
 resent_steady v c (e ∷ es) q n h =
     again_steady v (goes_settled v (again e)) e es q
     (again_credit v c e es (subst (λ (l : List Entry). AllByRecursion (λ o. o ≡ None) (again_rows v c l)) q n)) h
 
--- ---- detach
-
-detached_steady : (v : View) (closed : Bool) (error : Option AmqpError) → Sound v → Steady v (detached v closed error)
-detached_steady v true error h = shifts v (detached v true error) h refl (record { entries = omega arith; tags = λ t. omega arith })
-detached_steady v false error h =
-    shifts v (detached v false error) h refl
-    (record {
-        entries = omega (arith, length-append v.held.table (put_back v.held), length-append (listed v.held.resume) v.held.resend);
-        tags = λ t. omega (arith, tally_++ t v.held.table (put_back v.held), tally_++ t (listed v.held.resume) v.held.resend);
-      })
-
 -- ---- all calls
 
 pub steady : (v : View) (c : Call) → Sound v → Steady v (turn v c)
-steady v (Open handle incomplete) h = either (Steady v) (open_refusal v incomplete) (stay v) (opened v handle incomplete) (λ _. still v (opened v handle incomplete) h refl refl) (still v (stay v) h refl refl)
-steady v (Attach a pool) h =
-    either (Steady v) (attach_refusal v a pool) (stay v) (attached v a)
-    (λ _. shifts v (attached v a) h refl (attached_fewer v a (late_refusal v a)))
-    (still v (stay v) h refl refl)
+steady v (Open handle incomplete) h = accepted v (open_refusal v incomplete) (opened v handle incomplete) h (λ _. still v (opened v handle incomplete) h refl refl)
+steady v (Attach a pool) h = accepted v (attach_refusal v a pool) (attached v a) h (λ _. shifts v (attached v a) h refl (attached_fewer v a (late_refusal v a)))
 steady v (Flow i) h =
     let d = drained_span i.drain (credit_after i.link_credit i.delivery_count v.flow) v.flow (credit_fits i.link_credit i.delivery_count v.flow h.span) in
     falls v (turn v (Flow i)) h (same_held v.held v.held refl) d.1 d.0
-steady v (Send c m) h =
-    either (Steady v) (send_refusal v c m) (stay v) (sent v m)
-    (λ e. sent_steady v c m (goes_settled v m) refl (own_clear v c m e) h)
-    (still v (stay v) h refl refl)
+steady v (Send c m) h = accepted v (send_refusal v c m) (sent v m) h (λ e. sent_steady v c m (goes_settled v m) refl (own_clear v c m e) h)
 steady v (Disposition t b s) h = disposed_steady v t b s h
-steady v (Dispose sink d) h =
-    either (Steady v) (dispose_refusal v sink) (stay v) (disposed_here v d) (λ _. here_steady v d h) (still v (stay v) h refl refl)
+steady v (Dispose sink d) h = accepted v (dispose_refusal v sink) (disposed_here v d) h (λ _. here_steady v d h)
 steady v (Work c) h =
-    either (Steady v) (work_refusal v c) (stay v) (worked v c)
-    (λ _. shifts v (worked v c) h (work_flow v c.pool v.held.resume) (worked_fewer v c.pool v.held.resume refl))
-    (still v (stay v) h refl refl)
-steady v (Resend c) h =
-    either (Steady v) (resend_refusal v c) (stay v) (resent v)
-    (λ e. resent_steady v c v.held.resend refl (again_clear v c e) h)
-    (still v (stay v) h refl refl)
+    accepted v (work_refusal v c) (worked v c) h (λ _. shifts v (worked v c) h (work_flow v c.pool v.held.resume) (worked_fewer v c.pool v.held.resume refl))
+steady v (Resend c) h = accepted v (resend_refusal v c) (resent v) h (λ e. resent_steady v c v.held.resend refl (again_clear v c e) h)
 steady v (Detach closed error) h =
-    either (Steady v) (detach_refusal v closed) (stay v) (detached v closed error) (λ _. detached_steady v closed error h) (still v (stay v) h refl refl)
-steady v (Look n) h = still v (stay v) h refl refl
+    accepted v (detach_refusal v closed) (detached v closed error) h (λ _. shifts v (detached v closed error) h refl (detached_fewer closed v.held))
+steady v (Look n) h = stays v h
 steady v (Collect n) h = still v (turn v (Collect n)) h refl refl
 
 pub sound : (r : Run) → Sound (after r)

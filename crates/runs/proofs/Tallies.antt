@@ -1,6 +1,7 @@
 -- How many entries lists have, in all and of a tag, under the moves of an attach, a disposition and a detach.
-use Rattle.std.proofs.Common.{◌≡◌, ℕ, ◌+◌, ◌≤◌, false, List, [], ◌∷◌, ◌++◌, length, is_some, refl, ap, ◌∙◌, arith, length-append}
+use Rattle.std.proofs.Common.{◌≡◌, ◌+◌, ◌≤◌, false, List, [], ◌∷◌, ◌++◌, length, is_some, refl, ap, ◌∙◌, arith, length-append}
 use Rattle.std.specs.List.{flat_map}
+use Rattle.std.proofs.lemmas.List.Elements.{filter_map-append}
 use Rattle.amqp.specs.declared.tag.DeliveryTag.{DeliveryTag}
 use Rattle.unsettled.specs.declared.message.UnsettledMessage.{UnsettledMessage}
 use Rattle.unsettled.specs.Tables.{same_tag, look}
@@ -9,9 +10,8 @@ use Rattle.link.specs.declared.attach.Attach.{Attach}
 use Rattle.link.specs.declared.resumption.Resumption.{Resumption}
 use Rattle.link.specs.declared.resumption.Resumption.TheVariants as to
 use Rattle.link.specs.declared.resumption.ResumingDelivery.{ResumingDelivery}
-use Rattle.link.specs.declared.resumption.ResumingDelivery.TheVariants as item
 use Rattle.link.specs.Detaching.{clash}
-use Rattle.link.specs.Resuming.{judge, item_for, item_of, listed}
+use Rattle.link.specs.Resuming.{judge, item_for, item_of, delivery_of, listed}
 use Rattle.link.specs.Views.{Entry}
 use Rattle.runs.specs.Runs.{one}
 use Rattle.runs.proofs.Tables.{exchanged, last, but_last, filled, without}
@@ -37,19 +37,11 @@ length_exchanged t m (x ∷ xs) = let ih = length_exchanged t m xs in grind arit
 
 -- ---- the resume list
 
-listed_++ : (is js : List ResumingDelivery) → listed (is ++ js) ≡ listed is ++ listed js
-listed_++ [] js = refl
-listed_++ (item.Resend e ∷ is) js = ap (λ l. e ∷ l) (listed_++ is js)
-listed_++ (item.Resume e p ∷ is) js = ap (λ l. e ∷ l) (listed_++ is js)
-listed_++ (item.Abort e ∷ is) js = ap (λ l. e ∷ l) (listed_++ is js)
-listed_++ (item.RestateOutcome e ∷ is) js = ap (λ l. e ∷ l) (listed_++ is js)
-listed_++ (item.Settling t f o ∷ is) js = listed_++ is js
-
 pub tally_listed : (t : DeliveryTag) (is js : List ResumingDelivery) → tally t (listed (is ++ js)) ≡ tally t (listed is) + tally t (listed js)
-tally_listed t is js = ap (tally t) (listed_++ is js) ∙ tally_++ t (listed is) (listed js)
+tally_listed t is js = ap (tally t) (filter_map-append delivery_of is js) ∙ tally_++ t (listed is) (listed js)
 
 pub length_listed : (is js : List ResumingDelivery) → length (listed (is ++ js)) ≡ length (listed is) + length (listed js)
-length_listed is js = ap length (listed_++ is js) ∙ length-append (listed is) (listed js)
+length_listed is js = ap length (filter_map-append delivery_of is js) ∙ length-append (listed is) (listed js)
 
 tally_item : (t : DeliveryTag) (r : Resumption) (e : Entry) → tally t (listed (item_for r e)) ≤ one (same_tag e.tag t)
 tally_item t to.Resend e = omega arith
@@ -84,7 +76,7 @@ pub absent : (t : DeliveryTag) (xs : List Entry) → tally t xs ≡ 0 → is_som
 absent t [] h = refl
 absent t (x ∷ xs) h = let ih = absent t xs in grind arith
 
-own_tag : (t : DeliveryTag) → one (same_tag t t) ≡ 1
+pub own_tag : (t : DeliveryTag) → one (same_tag t t) ≡ 1
 own_tag t = ap one ((same_tag_decides t t).1 refl)
 
 pub no_clash : (es xs : List Entry) → ((t : DeliveryTag) → tally t xs + tally t es ≤ 1) → clash es xs ≡ false
