@@ -1,5 +1,5 @@
 -- What stands under a number after any call is what the call makes of its life.
-use Rattle.std.proofs.Common.{◌≡◌, ℕ, ◌≤◌, Bool, true, false, cond, ◌||◌, List, [], ◌∷◌, is_some, Some, None, Option, refl, ap, subst}
+use Rattle.std.proofs.Common.{◌≡◌, ℕ, ◌≤◌, Bool, true, false, cond, ◌||◌, List, [], is_some, Some, None, Option, refl, ap, subst}
 use Rattle.std.specs.List.{flat_map}
 use Rattle.amqp.specs.declared.condition.AmqpError.{AmqpError}
 use Rattle.amqp.specs.declared.error.SenderAttachError.{SenderAttachError}
@@ -27,8 +27,8 @@ use Rattle.link.specs.Views.{View, Entry}
 use Rattle.link.specs.Working.{work_refusal, worked}
 use Rattle.runs.specs.Lives.{in_table, in_resume_list, in_resend_list, Life, unborn, standing, over, from_unborn, from_table, from_resume_list, from_resend_list, next_life, disposed_life, disposed_here_life, works_on, resends, of, items_of}
 use Rattle.runs.proofs.Words.{among, outcomes}
-use Rattle.runs.proofs.Onward.{Stands, Onward, unmoved, after_send, send_onward, disposal_turn, disposal_at, disposal_life, after_disposal, disposal_onward}
-use Rattle.runs.proofs.Returning.{after_attach, attach_onward, after_detach, detach_onward, after_work, work_onward, after_resend, resend_onward}
+use Rattle.runs.proofs.Onward.{everywhere, Stands, Onward, unmoved, after_send, send_onward, disposal_turn, disposal_at, disposal_life, after_disposal, disposal_onward}
+use Rattle.runs.proofs.Returning.{attach_onward, after_detach, detach_onward, after_work, work_onward, after_resend, resend_onward}
 use Rattle.runs.proofs.Sound.{Sound, single_in_table}
 
 -- a turn that touches no delivery
@@ -40,11 +40,7 @@ idle n x v u y h e k w b =
 same_life : (v : View) (c : Call) (n : ℕ) → from_unborn v c n ≡ unborn → ((e : Entry) → from_table v c e ≡ standing in_table e)
     → ((r : Resumption) (e : Entry) → from_resume_list v c n r e ≡ standing (in_resume_list r) e) → ((e : Entry) → from_resend_list v c n e ≡ standing in_resend_list e)
     → (x : Life) → next_life v c n x ≡ x
-same_life v c n a b i s unborn = a
-same_life v c n a b i s (standing in_table e) = b e
-same_life v c n a b i s (standing (in_resume_list r) e) = i r e
-same_life v c n a b i s (standing in_resend_list e) = s e
-same_life v c n a b i s (over o) = refl
+same_life v c n a b i s = everywhere (next_life v c n) (λ x. x) a b i s (λ _. refl)
 
 pub both : {X : Type 0} (b : Bool) (x y : X) → y ≡ x → cond b x y ≡ x
 both true x y e = refl
@@ -58,39 +54,16 @@ gate n x v (Some e) u y h k = idle n x v (stay v) x h refl refl refl refl
 -- ---- each call, by what it makes of a life
 
 send_next : (v : View) (c : Carrier) (m : Sendable) (n : ℕ) (x : Life) → after_send v m n (goes_settled v m) x ≡ next_life v (Send c m) n x
-send_next v c m n unborn = refl
-send_next v c m n (standing in_table e) = refl
-send_next v c m n (standing (in_resume_list r) e) = refl
-send_next v c m n (standing in_resend_list e) = refl
-send_next v c m n (over o) = refl
-
-attach_next : (v : View) (a : RemoteAttach) (pool : List ℕ) (n : ℕ) (x : Life) → after_attach a x ≡ next_life v (Attach a pool) n x
-attach_next v a pool n unborn = refl
-attach_next v a pool n (standing in_table e) = refl
-attach_next v a pool n (standing (in_resume_list r) e) = refl
-attach_next v a pool n (standing in_resend_list e) = refl
-attach_next v a pool n (over o) = refl
+send_next v c m n = everywhere (after_send v m n (goes_settled v m)) (next_life v (Send c m) n) refl (λ _. refl) (λ _ _. refl) (λ _. refl) (λ _. refl)
 
 work_next : (v : View) (c : Carrier) (n : ℕ) (x : Life) → after_work c.pool (works_on n v.held.resume) x ≡ next_life v (Work c) n x
-work_next v c n unborn = refl
-work_next v c n (standing in_table e) = refl
-work_next v c n (standing (in_resume_list r) e) = refl
-work_next v c n (standing in_resend_list e) = refl
-work_next v c n (over o) = refl
+work_next v c n = everywhere (after_work c.pool (works_on n v.held.resume)) (next_life v (Work c) n) refl (λ _. refl) (λ _ _. refl) (λ _. refl) (λ _. refl)
 
 resend_next : (v : View) (c : Carrier) (n : ℕ) (x : Life) → after_resend v (resends n v.held.resend) x ≡ next_life v (Resend c) n x
-resend_next v c n unborn = refl
-resend_next v c n (standing in_table e) = refl
-resend_next v c n (standing (in_resume_list r) e) = refl
-resend_next v c n (standing in_resend_list e) = refl
-resend_next v c n (over o) = refl
+resend_next v c n = everywhere (after_resend v (resends n v.held.resend)) (next_life v (Resend c) n) refl (λ _. refl) (λ _ _. refl) (λ _. refl) (λ _. refl)
 
 detach_next : (v : View) (closed : Bool) (error : Option AmqpError) (n : ℕ) (x : Life) → after_detach closed error x ≡ next_life v (Detach closed error) n x
-detach_next v closed error n unborn = refl
-detach_next v closed error n (standing in_table e) = refl
-detach_next v closed error n (standing (in_resume_list r) e) = refl
-detach_next v closed error n (standing in_resend_list e) = refl
-detach_next v closed error n (over o) = refl
+detach_next v closed error n = everywhere (after_detach closed error) (next_life v (Detach closed error) n) refl (λ _. refl) (λ _ _. refl) (λ _. refl) (λ _. refl)
 
 -- the outcome of a delivery that a disposition of the peer's ends, and of one that our own ends
 abbrev by_peer : Option DeliveryState → UnsettledMessage → Outcome
@@ -108,15 +81,13 @@ disposed_turn v t s b (Some m) = go (b || ended s)
     go false = refl
 
 disposed_next : (v : View) (t : DeliveryTag) (s : Option DeliveryState) (b : Bool) (n : ℕ) (x : Life) → after_disposal t s (by_peer s) (b || ended s) x ≡ next_life v (Disposition t b s) n x
-disposed_next v t s b n unborn = refl
-disposed_next v t s b n (standing in_table e) = ap (λ y. cond (same_tag e.tag t) y (standing in_table e)) (go (b || ended s))
+disposed_next v t s b n =
+    everywhere (after_disposal t s (by_peer s) (b || ended s)) (next_life v (Disposition t b s) n) refl
+    (λ e. ap (λ y. cond (same_tag e.tag t) y (standing in_table e)) (go e (b || ended s))) (λ _ _. refl) (λ _. refl) (λ _. refl)
   where
-    go : (c : Bool) → disposal_life s (by_peer s) c e ≡ disposed_life c s e
-    go true = refl
-    go false = refl
-disposed_next v t s b n (standing (in_resume_list r) e) = refl
-disposed_next v t s b n (standing in_resend_list e) = refl
-disposed_next v t s b n (over o) = refl
+    go : (e : Entry) (c : Bool) → disposal_life s (by_peer s) c e ≡ disposed_life c s e
+    go e true = refl
+    go e false = refl
 
 disposed_onward : (v : View) (t : DeliveryTag) (s : Option DeliveryState) (b : Bool) (n : ℕ) (x : Life) → Sound v → Stands n x v.held → Onward n x (disposed v t b s) (next_life v (Disposition t b s) n x)
 disposed_onward v t s b n x k h =
@@ -144,29 +115,19 @@ after_here b d (standing in_resend_list e) = standing in_resend_list e
 after_here b d (over o) = over o
 
 here_next : (v : View) (sink : Model) (d : Disposal) (n : ℕ) (x : Life) → after_here (sends_settled v) d x ≡ next_life v (Dispose sink d) n x
-here_next v sink d n unborn = refl
-here_next v sink d n (standing in_table e) = refl
-here_next v sink d n (standing (in_resume_list r) e) = refl
-here_next v sink d n (standing in_resend_list e) = refl
-here_next v sink d n (over o) = refl
+here_next v sink d n = everywhere (after_here (sends_settled v) d) (next_life v (Dispose sink d) n) refl (λ _. refl) (λ _ _. refl) (λ _. refl) (λ _. refl)
 
 none_here : (d : Disposal) (x : Life) → after_here true d x ≡ x
-none_here d unborn = refl
-none_here d (standing in_table e) = refl
-none_here d (standing (in_resume_list r) e) = refl
-none_here d (standing in_resend_list e) = refl
-none_here d (over o) = refl
+none_here d = everywhere (after_here true d) (λ x. x) refl (λ _. refl) (λ _ _. refl) (λ _. refl) (λ _. refl)
 
 told_here : (d : Disposal) (x : Life) → after_disposal d.delivery_tag (Some d.state) by_us d.settled x ≡ after_here false d x
-told_here d unborn = refl
-told_here d (standing in_table e) = ap (λ y. cond (same_tag e.tag d.delivery_tag) y (standing in_table e)) (go d.settled)
+told_here d =
+    everywhere (after_disposal d.delivery_tag (Some d.state) by_us d.settled) (after_here false d) refl
+    (λ e. ap (λ y. cond (same_tag e.tag d.delivery_tag) y (standing in_table e)) (go e d.settled)) (λ _ _. refl) (λ _. refl) (λ _. refl)
   where
-    go : (c : Bool) → disposal_life (Some d.state) by_us c e ≡ disposed_here_life c d.state e
-    go true = refl
-    go false = refl
-told_here d (standing (in_resume_list r) e) = refl
-told_here d (standing in_resend_list e) = refl
-told_here d (over o) = refl
+    go : (e : Entry) (c : Bool) → disposal_life (Some d.state) by_us c e ≡ disposed_here_life c d.state e
+    go e true = refl
+    go e false = refl
 
 here_onward : (v : View) (d : Disposal) (n : ℕ) (x : Life) (b : Bool) → Sound v → Stands n x v.held
     → Onward n x (cond b (stay v) (disposed_here_at (look d.delivery_tag v.held.table) d v)) (after_here b d x)
@@ -177,24 +138,22 @@ here_onward v d n x false k h =
     (disposal_onward v n d.delivery_tag (Some d.state) by_us d.settled x (single_in_table v k d.delivery_tag) h))
 
 -- an attach is refused before its move or after it
-attached_onward : (v : View) (a : RemoteAttach) (n : ℕ) (x y : Life) → after_attach a x ≡ y → Stands n x v.held → (o p : Option SenderAttachError)
+attached_onward : (v : View) (a : RemoteAttach) (pool : List ℕ) (n : ℕ) (x : Life) → Stands n x v.held → (o p : Option SenderAttachError)
     → Onward n x
     (unless o (stay v)
-        (moved v (attached_state v a) v.output (Some a.handle) (attached_settings v a) (unless p v.held (resumed v a)) (unless p [] (flat_map (end_of a) v.held.table))))
-    (cond (is_some o || is_some p) x y)
-attached_onward v a n x y e h (Some r) p = idle n x v (stay v) x h refl refl refl refl
-attached_onward v a n x y e h None (Some r) =
+    (moved v (attached_state v a) v.output (Some a.handle) (attached_settings v a) (unless p v.held (resumed v a)) (unless p [] (flat_map (end_of a) v.held.table))))
+    (cond (is_some o || is_some p) x (next_life v (Attach a pool) n x))
+attached_onward v a pool n x h (Some r) p = idle n x v (stay v) x h refl refl refl refl
+attached_onward v a pool n x h None (Some r) =
     idle n x v (moved v (attached_state v a) v.output (Some a.handle) (attached_settings v a) v.held []) x h refl refl refl refl
-attached_onward v a n x y e h None None =
-    subst (Onward n x (moved v (attached_state v a) v.output (Some a.handle) (attached_settings v a) (resumed v a) (flat_map (end_of a) v.held.table))) e
-    (attach_onward v n a (attached_state v a) v.output (Some a.handle) (attached_settings v a) x h)
+attached_onward v a pool n x h None None = attach_onward v n a pool (attached_state v a) v.output (Some a.handle) (attached_settings v a) x h
 
 pub onward : (v : View) (c : Call) (n : ℕ) (x : Life) → Sound v → Stands n x v.held → (next_number v ≤ n → x ≡ unborn)
     → Onward n x (turn v c) (cond (refused v c) x (next_life v c n x))
 onward v (Open handle incomplete) n x s h f =
     gate n x v (open_refusal v incomplete) (opened v handle incomplete) (next_life v (Open handle incomplete) n x) h
     (idle n x v (opened v handle incomplete) _ h (same_life v (Open handle incomplete) n refl (λ _. refl) (λ _ _. refl) (λ _. refl) x) refl refl refl)
-onward v (Attach a pool) n x s h f = attached_onward v a n x (next_life v (Attach a pool) n x) (attach_next v a pool n x) h (attach_refusal v a pool) (late_refusal v a)
+onward v (Attach a pool) n x s h f = attached_onward v a pool n x h (attach_refusal v a pool) (late_refusal v a)
 onward v (Flow i) n x s h f = idle n x v (turn v (Flow i)) _ h (same_life v (Flow i) n refl (λ _. refl) (λ _ _. refl) (λ _. refl) x) refl refl refl
 onward v (Send c m) n x s h f =
     gate n x v (send_refusal v c m) (sent v m) (next_life v (Send c m) n x) h

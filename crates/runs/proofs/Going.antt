@@ -5,7 +5,6 @@ use Rattle.std.specs.Option.{unwrap_or}
 use Rattle.std.proofs.lemmas.List.{length-take, length-drop, take_all}
 use Rattle.std.proofs.lemmas.Bool.{lt-ltb, le-ltb}
 use Rattle.amqp.specs.declared.error.LinkStateError.TheVariants.{IllegalState}
-use Rattle.amqp.specs.declared.error.SendError.{SendError}
 use Rattle.amqp.specs.declared.error.SendError.TheVariants as fault
 use Rattle.amqp.specs.declared.header.FrameKind.{FrameKind}
 use Rattle.amqp.specs.declared.header.FrameKind.TheVariants.{First, Continuation}
@@ -24,7 +23,7 @@ use Rattle.link.specs.Calls.{Call, Open, Attach, Flow, Send, Disposition, Dispos
 use Rattle.link.specs.Disposing.{dispose_refusal, disposed_frames}
 use Rattle.link.specs.Resending.{again, again_rows, again_frames, resend_refusal, resent_frames}
 use Rattle.link.specs.Rows.{row, unless}
-use Rattle.link.specs.Sending.{Carrier, message, payload, none_left, ready, transfer_of, share_by, narrow, size_for, cut, send_refusal, sent_frames}
+use Rattle.link.specs.Sending.{Carrier, message, none_left, ready, transfer_of, share_by, narrow, size_for, cut, send_refusal, sent_frames}
 use Rattle.link.specs.Views.{View, Entry}
 use Rattle.link.specs.Working.{past, start_in, resume_task, restate_task, abort_task, settling_task, working, task_payload, task_frames, task_rows, item_rows, item_frames, work_refusal, worked_frames}
 use Rattle.link.proofs.Rows.{all_none, row_off}
@@ -125,8 +124,8 @@ puts_resent : (v : View) (c : Carrier) → resend_refusal v c ≡ None → Resen
 puts_resent v c h =
     resend_puts v c v.held.resend
     (all_none
-        (row (not (ready v)) (fault.LinkState IllegalState) ∷ (row (not (none_left v.held.resume)) fault.ListsNotEmpty ∷ again_rows v c v.held.resend))
-        h).1.1
+    (row (not (ready v)) (fault.LinkState IllegalState) ∷ (row (not (none_left v.held.resume)) fault.ListsNotEmpty ∷ again_rows v c v.held.resend))
+    h).1.1
 
 -- ---- every call
 

@@ -1,5 +1,5 @@
 -- The items of a number in a resume list, and its deliveries.
-use Rattle.std.proofs.Common.{◌≡◌, ℕ, Bool, true, false, cond, eqb, List, [], ◌∷◌, ◌++◌, refl, ap₂, ◌∙◌, sym, arith}
+use Rattle.std.proofs.Common.{◌≡◌, ℕ, Bool, true, false, cond, eqb, List, [], ◌∷◌, ◌++◌, refl, ap₂, ◌∙◌, arith}
 use Rattle.std.specs.List.{flat_map}
 use Rattle.link.specs.declared.attach.Attach.{Attach}
 use Rattle.link.specs.declared.resumption.ResumingDelivery.{ResumingDelivery}

@@ -10,7 +10,7 @@ use Rattle.link.specs.Sending.{Carrier, goes_settled, next_number, send_refusal,
 use Rattle.link.specs.Turns.{stay}
 use Rattle.link.specs.Views.{View}
 use Rattle.link.proofs.Sending.{Clear, clear, own_clear}
-use Rattle.runs.specs.Lives.{in_table, Life, unborn, standing, over, from_unborn, next_life, life, sent_life, born, AsLived}
+use Rattle.runs.specs.Lives.{in_table, unborn, standing, over, from_unborn, next_life, life, sent_life, born, AsLived}
 use Rattle.runs.specs.Runs.{Run, made, ◌▹◌, ◌then◌, after, given}
 use Rattle.runs.proofs.Calls.{both, onward}
 use Rattle.runs.proofs.Onward.{Stands, Onward}

@@ -9,6 +9,7 @@ use Rattle.unsettled.specs.Tables.{same_tag, look, entry_of, put_in, swap_remove
 use Rattle.unsettled.proofs.Same.{same_tag_decides}
 use Rattle.link.specs.declared.delivery.Outcome.{Outcome}
 use Rattle.link.specs.declared.delivery.Sendable.{Sendable}
+use Rattle.link.specs.declared.resumption.Resumption.{Resumption}
 use Rattle.link.specs.Disposing.{recording}
 use Rattle.link.specs.Resuming.{listed}
 use Rattle.link.specs.Sending.{first_sent, next_number, sent_as, with_table}
@@ -19,6 +20,16 @@ use Rattle.runs.specs.Runs.{one}
 use Rattle.runs.proofs.Tables.{found, put_found, swap_found}
 use Rattle.runs.proofs.Entries.{tally, of_++, found_tag, found_none, exchange_other, without_other, found_has, found_one, exchange_it, without_it, found_other}
 use Rattle.runs.proofs.Words.{last_word, among, outcomes}
+
+-- what two functions make of a life is the same where it is the same wherever the life stands
+pub everywhere : {X : Type 0} (f g : Life → X) → f unborn ≡ g unborn → ((e : Entry) → f (standing in_table e) ≡ g (standing in_table e))
+    → ((r : Resumption) (e : Entry) → f (standing (in_resume_list r) e) ≡ g (standing (in_resume_list r) e)) → ((e : Entry) → f (standing in_resend_list e) ≡ g (standing in_resend_list e))
+    → ((o : Outcome) → f (over o) ≡ g (over o)) → (x : Life) → f x ≡ g x
+everywhere f g b t i s o unborn = b
+everywhere f g b t i s o (standing in_table e) = t e
+everywhere f g b t i s o (standing (in_resume_list r) e) = i r e
+everywhere f g b t i s o (standing in_resend_list e) = s e
+everywhere f g b t i s o (over w) = o w
 
 -- what waits of it in the resume list
 abbrev pub waiting : Life → List Entry
@@ -200,7 +211,7 @@ module _ (v : View) (n : ℕ) (t : DeliveryTag) (s : Option DeliveryState) (w : 
           let q' : y ≡ standing in_table x = q ∙ ap (standing in_table) (sym z) in
           let hx : Stands n (standing in_table x) v.held = subst (λ (l : Life). Stands n l v.held) q' h in
           let d : after_disposal t s w b (standing in_table x) ≡ disposal_life s w b x =
-            ap (λ c. cond c (disposal_life s w b x) (standing in_table x)) (found_tag t x v.held.table f) in
+          ap (λ c. cond c (disposal_life s w b x) (standing in_table x)) (found_tag t x v.held.table f) in
           subst (λ (l : Life). Onward n l (disposal_turn v t s w b x.entry) (after_disposal t s w b l)) (sym q')
           (subst (Onward n (standing in_table x) (disposal_turn v t s w b x.entry)) (sym d) (disposed_it b x f k hx))
 

@@ -1,10 +1,9 @@
 -- What stands under a number after an attach, a work, a resend or a detach is what the call makes of its life.
-use Rattle.std.proofs.Common.{◌≡◌, ℕ, Bool, true, false, cond, eqb, List, [], ◌∷◌, ◌++◌, map, Option, sym, refl, ap, ap₂, ◌∙◌, subst, arith}
+use Rattle.std.proofs.Common.{◌≡◌, ℕ, Bool, true, false, cond, eqb, List, [], ◌∷◌, ◌++◌, map, Option, sym, refl, ap, ap₂, ◌∙◌, subst}
 use Rattle.std.specs.List.{flat_map}
 use Rattle.std.proofs.lemmas.List.{append-nil}
 use Rattle.amqp.specs.declared.condition.AmqpError.{AmqpError}
-use Rattle.link.specs.declared.attach.Attach.{Attach}
-use Rattle.link.specs.declared.delivery.Outcome.{Outcome}
+use Rattle.link.specs.declared.attach.Attach.{Attach as RemoteAttach}
 use Rattle.link.specs.declared.resumption.ResumingDelivery.{ResumingDelivery}
 use Rattle.link.specs.declared.resumption.ResumingDelivery.TheVariants as item
 use Rattle.link.specs.declared.resumption.Resumption.{Resumption}
@@ -12,28 +11,21 @@ use Rattle.link.specs.declared.resumption.Resumption.TheVariants as to
 use Rattle.link.specs.declared.settings.Settings.{Settings}
 use Rattle.link.specs.declared.state.LinkState.{LinkState}
 use Rattle.link.specs.Attaching.{resumed}
+use Rattle.link.specs.Calls.{Attach}
 use Rattle.link.specs.Detaching.{put_back, closed_by, detached}
-use Rattle.link.specs.Outcomes.{outcome_of}
 use Rattle.link.specs.Resending.{again, sent_again, again_as, again_turn}
 use Rattle.link.specs.Resuming.{judge, item_for, item_of, end_of, listed}
 use Rattle.link.specs.Sending.{goes_settled}
 use Rattle.link.specs.Turns.{moved, stay}
 use Rattle.link.specs.Views.{View, Held, Entry}
 use Rattle.link.specs.Working.{start_in, cut_to, item_turn}
-use Rattle.runs.specs.Lives.{in_table, in_resume_list, in_resend_list, Life, unborn, standing, over, judged, worked_life, resent_life, detached_life, works_on, resends, of, items_of, in_its_table, in_its_resume_list, in_its_resend_list, born}
+use Rattle.runs.specs.Lives.{in_table, in_resume_list, in_resend_list, Life, unborn, standing, over, judged, worked_life, resent_life, detached_life, next_life, works_on, resends, of, items_of, in_its_table, in_its_resume_list, in_its_resend_list, born}
 use Rattle.runs.proofs.Entries.{of_++}
 use Rattle.runs.proofs.Items.{items_of_++, items_first, of_listed, waits_of, items_attach}
-use Rattle.runs.proofs.Words.{last_word, outcomes, word_of, words_attach, words_close}
-use Rattle.runs.proofs.Onward.{waiting, Stands, Onward, unmoved}
+use Rattle.runs.proofs.Words.{outcomes, word_of, words_attach, words_close}
+use Rattle.runs.proofs.Onward.{everywhere, waiting, Stands, Onward, unmoved}
 
 -- ---- attach
-
-abbrev pub after_attach : Attach → Life → Life
-after_attach a unborn = unborn
-after_attach a (standing in_table e) = judged (judge a e) e
-after_attach a (standing (in_resume_list r) e) = standing (in_resume_list r) e
-after_attach a (standing in_resend_list e) = standing in_resend_list e
-after_attach a (over o) = over o
 
 judged_stands : (n : ℕ) (r : Resumption) (e : Entry) (h : Held) → h.table ≡ [] → items_of n h.resume ≡ in_its_resume_list (judged r e) → of n h.resend ≡ [] → Stands n (judged r e) h
 judged_stands n to.Resend e h t i s = record { table = ap (of n) t; resume = i; resend = s; waits = refl }
@@ -51,7 +43,7 @@ judged_born to.RestateOutcome e = refl
 judged_born (to.End o) e = refl
 judged_born (to.Settle o) e = refl
 
-module _ (v : View) (n : ℕ) (a : Attach) where
+module _ (v : View) (n : ℕ) (a : RemoteAttach) where
   waits : (x : Life) → Stands n x v.held → items_of n (resumed v a).resume ≡ in_its_resume_list x ++ flat_map (waits_of a) (in_its_table x)
   waits x h =
       items_of_++ n v.held.resume (flat_map (item_of a) v.held.table)
@@ -60,9 +52,9 @@ module _ (v : View) (n : ℕ) (a : Attach) where
   ends : (x : Life) → Stands n x v.held → outcomes n (flat_map (end_of a) v.held.table) ≡ flat_map (word_of a) (in_its_table x)
   ends x h = words_attach n a v.held.table ∙ ap (flat_map (word_of a)) h.table
 
-  pub attach_onward : (s : LinkState) (output input : Option ℕ) (k : Settings) (x : Life) → Stands n x v.held
-      → Onward n x (moved v s output input k (resumed v a) (flat_map (end_of a) v.held.table)) (after_attach a x)
-  attach_onward s output input k x h = go x h
+  pub attach_onward : (pool : List ℕ) (s : LinkState) (output input : Option ℕ) (k : Settings) (x : Life) → Stands n x v.held
+      → Onward n x (moved v s output input k (resumed v a) (flat_map (end_of a) v.held.table)) (next_life v (Attach a pool) n x)
+  attach_onward pool s output input k x h = go x h
     where
       -- what is not in the table stays
       away : (x : Life) → in_its_table x ≡ [] → Stands n x v.held → Onward n x (moved v s output input k (resumed v a) (flat_map (end_of a) v.held.table)) x
@@ -71,7 +63,7 @@ module _ (v : View) (n : ℕ) (a : Attach) where
           (waits x h ∙ ap (λ l. in_its_resume_list x ++ flat_map (waits_of a) l) e ∙ append-nil (in_its_resume_list x) ∙ sym h.resume)
           refl (ends x h ∙ ap (flat_map (word_of a)) e) refl
 
-      go : (x : Life) → Stands n x v.held → Onward n x (moved v s output input k (resumed v a) (flat_map (end_of a) v.held.table)) (after_attach a x)
+      go : (x : Life) → Stands n x v.held → Onward n x (moved v s output input k (resumed v a) (flat_map (end_of a) v.held.table)) (next_life v (Attach a pool) n x)
       go unborn h = away unborn refl h
       go (standing in_table e) h =
           record {
@@ -92,11 +84,7 @@ alive (standing w e) = e ∷ []
 alive (over o) = []
 
 all_alive : (x : Life) → in_its_table x ++ (waiting x ++ in_its_resend_list x) ≡ alive x
-all_alive unborn = refl
-all_alive (standing in_table e) = refl
-all_alive (standing (in_resume_list r) e) = refl
-all_alive (standing in_resend_list e) = refl
-all_alive (over o) = refl
+all_alive = everywhere (λ x. in_its_table x ++ (waiting x ++ in_its_resend_list x)) alive refl (λ _. refl) (λ _ _. refl) (λ _. refl) (λ _. refl)
 
 gathered : (n : ℕ) (x : Life) (h : Held) → Stands n x h → of n (h.table ++ put_back h) ≡ alive x
 gathered n x h k =
@@ -142,11 +130,7 @@ after_work pool b (standing in_resend_list e) = standing in_resend_list e
 after_work pool b (over o) = over o
 
 not_its_turn : (pool : List ℕ) (x : Life) → after_work pool false x ≡ x
-not_its_turn pool unborn = refl
-not_its_turn pool (standing in_table e) = refl
-not_its_turn pool (standing (in_resume_list r) e) = refl
-not_its_turn pool (standing in_resend_list e) = refl
-not_its_turn pool (over o) = refl
+not_its_turn pool = everywhere (after_work pool false) (λ x. x) refl (λ _. refl) (λ _ _. refl) (λ _. refl) (λ _. refl)
 
 -- a life that waits in the resume list, by its item
 record Waiting (x : Life) (is : List ResumingDelivery) : Type 0 where
@@ -233,7 +217,7 @@ module _ (v : View) (n : ℕ) (pool : List ℕ) where
           at false k = work_other i is x (after_work pool false x) q k (not_its_turn pool x) h
           at true k =
               let first : i ∷ items_of n is ≡ in_its_resume_list x =
-                sym (ap (items_of n) q ∙ items_first n i is ∙ ap (λ b. cond b (i ∷ items_of n is) (items_of n is)) k) ∙ h.resume in
+              sym (ap (items_of n) q ∙ items_first n i is ∙ ap (λ b. cond b (i ∷ items_of n is) (items_of n is)) k) ∙ h.resume in
               let w = the_waiting x i (items_of n is) first in
               subst (λ (l : Life). Onward n l (item_turn v pool (i ∷ is)) (after_work pool true l)) (sym w.is_so)
               (work_own w.todo w.entry i is w.item k (subst (λ (l : Life). Stands n l v.held) w.is_so h))
@@ -248,11 +232,7 @@ after_resend v b (standing in_resend_list e) = cond b (resent_life (goes_settled
 after_resend v b (over o) = over o
 
 not_its_resend : (v : View) (x : Life) → after_resend v false x ≡ x
-not_its_resend v unborn = refl
-not_its_resend v (standing in_table e) = refl
-not_its_resend v (standing (in_resume_list r) e) = refl
-not_its_resend v (standing in_resend_list e) = refl
-not_its_resend v (over o) = refl
+not_its_resend v = everywhere (after_resend v false) (λ x. x) refl (λ _. refl) (λ _ _. refl) (λ _. refl) (λ _. refl)
 
 the_resent : (x : Life) (e : Entry) (es : List Entry) → e ∷ es ≡ in_its_resend_list x → (x ≡ standing in_resend_list e) × (es ≡ [])
 the_resent unborn e es h = absurd (cc)
