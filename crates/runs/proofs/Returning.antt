@@ -4,6 +4,7 @@ use Rattle.std.specs.List.{flat_map}
 use Rattle.std.proofs.lemmas.List.{append-nil}
 use Rattle.amqp.specs.declared.condition.AmqpError.{AmqpError}
 use Rattle.link.specs.declared.attach.Attach.{Attach as RemoteAttach}
+use Rattle.link.specs.declared.delivery.Outcome.TheVariants.{NoState}
 use Rattle.link.specs.declared.resumption.ResumingDelivery.{ResumingDelivery}
 use Rattle.link.specs.declared.resumption.ResumingDelivery.TheVariants as item
 use Rattle.link.specs.declared.resumption.Resumption.{Resumption}
@@ -147,46 +148,39 @@ the_waiting (standing in_resend_list e) i is h = absurd (cc)
 the_waiting (over o) i is h = absurd (cc)
 
 module _ (v : View) (n : ℕ) (pool : List ℕ) where
-  -- the first item is the number's
+  -- the first item, and that no other is the number's
+  alone : (i j : ResumingDelivery) (is : List ResumingDelivery) (x y : Life) → i ∷ items_of n is ≡ j ∷ [] → works_on n (i ∷ is) ≡ true
+      → (works_on n (j ∷ is) ≡ true → items_of n is ≡ [] → Onward n x (item_turn v pool (j ∷ is)) y) → Onward n x (item_turn v pool (i ∷ is)) y
+  alone i j is x y q k f =
+      let z : j ≡ i = cc in
+      let none : items_of n is ≡ [] = cc in
+      subst (λ (l : ResumingDelivery). Onward n x (item_turn v pool (l ∷ is)) y) z (f (ap (λ l. works_on n (l ∷ is)) z ∙ k) none)
+
+  -- it is the number's
   work_own : (r : Resumption) (e : Entry) (i : ResumingDelivery) (is : List ResumingDelivery) → i ∷ items_of n is ≡ item_for r e → works_on n (i ∷ is) ≡ true
       → Stands n (standing (in_resume_list r) e) v.held → Onward n (standing (in_resume_list r) e) (item_turn v pool (i ∷ is)) (worked_life pool r e)
   work_own to.Resend e i is q k h =
-      let z : i ≡ item.Resend e = cc in
-      let y : items_of n is ≡ [] = cc in
-      let own : eqb n e.entry.ticket ≡ true = sym (ap (λ j. works_on n (j ∷ is)) z) ∙ k in
-      subst (λ j. Onward n (standing (in_resume_list to.Resend) e) (item_turn v pool (j ∷ is)) (standing in_resend_list e)) (sym z)
-      (record {
-        stands = record { table = h.table; resume = y; resend = joined_own n v.held.resend e own h.resend; waits = refl };
+      alone i (item.Resend e) is (standing (in_resume_list to.Resend) e) (standing in_resend_list e) q k
+      (λ own none. record {
+        stands = record { table = h.table; resume = none; resend = joined_own n v.held.resend e own h.resend; waits = refl };
         words = refl;
         births = refl;
       })
   work_own (to.Resume p) e i is q k h =
-      let z : i ≡ item.Resume e p = cc in
-      let y : items_of n is ≡ [] = cc in
-      let own : eqb n e.entry.ticket ≡ true = sym (ap (λ j. works_on n (j ∷ is)) z) ∙ k in
-      subst (λ j. Onward n (standing (in_resume_list (to.Resume p)) e) (item_turn v pool (j ∷ is)) (worked_life pool (to.Resume p) e)) (sym z)
-      (record {
-        stands = record { table = joined_own n v.held.table (cut_to (start_in pool e.entry.place p) e) own h.table; resume = y; resend = h.resend; waits = refl };
+      let x = cut_to (start_in pool e.entry.place p) e in
+      alone i (item.Resume e p) is (standing (in_resume_list (to.Resume p)) e) (standing in_table x) q k
+      (λ own none. record {
+        stands = record { table = joined_own n v.held.table (cut_to (start_in pool e.entry.place p) e) own h.table; resume = none; resend = h.resend; waits = refl };
         words = refl;
         births = refl;
       })
   work_own to.Abort e i is q k h =
-      let z : i ≡ item.Abort e = cc in
-      let y : items_of n is ≡ [] = cc in
-      let own : eqb n e.entry.ticket ≡ true = sym (ap (λ j. works_on n (j ∷ is)) z) ∙ k in
-      subst (λ j. Onward n (standing (in_resume_list to.Abort) e) (item_turn v pool (j ∷ is)) (worked_life pool to.Abort e)) (sym z)
-      (record {
-        stands = record { table = h.table; resume = y; resend = h.resend; waits = refl };
-        words = rw own;
-        births = refl;
-      })
+      alone i (item.Abort e) is (standing (in_resume_list to.Abort) e) (over NoState) q k
+      (λ own none. record { stands = record { table = h.table; resume = none; resend = h.resend; waits = refl }; words = rw own; births = refl })
   work_own to.RestateOutcome e i is q k h =
-      let z : i ≡ item.RestateOutcome e = cc in
-      let y : items_of n is ≡ [] = cc in
-      let own : eqb n e.entry.ticket ≡ true = sym (ap (λ j. works_on n (j ∷ is)) z) ∙ k in
-      subst (λ j. Onward n (standing (in_resume_list to.RestateOutcome) e) (item_turn v pool (j ∷ is)) (standing in_table e)) (sym z)
-      (record {
-        stands = record { table = joined_own n v.held.table e own h.table; resume = y; resend = h.resend; waits = refl };
+      alone i (item.RestateOutcome e) is (standing (in_resume_list to.RestateOutcome) e) (standing in_table e) q k
+      (λ own none. record {
+        stands = record { table = joined_own n v.held.table e own h.table; resume = none; resend = h.resend; waits = refl };
         words = refl;
         births = refl;
       })
