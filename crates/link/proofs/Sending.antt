@@ -27,10 +27,10 @@ pub record Clear (v : View) (c : Carrier) (m : Sendable) : Type 0 where
   pub room : goes_settled v m ≡ false → table_full v ≡ false
   pub seat : goes_settled v m ≡ false → no_seat v ≡ false
 
-place_clear : (p : Place) (n : ℕ) → outside p n ≡ false → p.start + p.len ≤ n
+pub place_clear : (p : Place) (n : ℕ) → outside p n ≡ false → p.start + p.len ≤ n
 place_clear p n h = grind (arith, nat_tests)
 
-fits_clear : (frame size len : ℕ) → narrow frame size len ≡ false → size + min (max 1 (share_of frame size)) len + 4 ≤ frame
+pub fits_clear : (frame size len : ℕ) → narrow frame size len ≡ false → size + min (max 1 (share_of frame size)) len + 4 ≤ frame
 fits_clear frame size len h = grind (arith, nat_tests)
 
 credit_clear : (n : ℕ) → eqb n 0 ≡ false → 0 < n
@@ -57,7 +57,7 @@ clear v c m h =
       seat = λ e. (entry_clear v (goes_settled v m) n.1.1.1.1.1.1 e).2;
     }
 
-length_message : (pool : List ℕ) (p : Place) → p.start + p.len ≤ length pool → length (message pool p) ≡ p.len
+pub length_message : (pool : List ℕ) (p : Place) → p.start + p.len ≤ length pool → length (message pool p) ≡ p.len
 length_message pool p h = omega (arith, length-take p.len (drop p.start pool), length-drop p.start pool)
 
 -- the frames of a transfer carry what lies at a place of the pool

@@ -1,8 +1,8 @@
 -- The entries of a number, and of a tag, under each move of a table.
-use Rattle.std.proofs.Common.{◌≡◌, ℕ, ◌+◌, ◌≤◌, Bool, true, false, cond, eqb, List, [], ◌∷◌, ◌++◌, length, is_some, Some, None, sym, refl, ap, ◌∙◌, subst, true≢false, arith, length-append}
+use Rattle.std.proofs.Common.{◌≡◌, ℕ, ◌+◌, ◌≤◌, Bool, true, false, cond, eqb, List, [], ◌∷◌, ◌++◌, length, Some, None, sym, refl, ap, ◌∙◌, subst, true≢false, arith, length-append}
 use Rattle.amqp.specs.declared.tag.DeliveryTag.{DeliveryTag}
 use Rattle.unsettled.specs.declared.message.UnsettledMessage.{UnsettledMessage}
-use Rattle.unsettled.specs.Tables.{same_tag, look}
+use Rattle.unsettled.specs.Tables.{same_tag}
 use Rattle.link.specs.Views.{Entry}
 use Rattle.runs.specs.Lives.{of}
 use Rattle.runs.specs.Runs.{one}
@@ -20,11 +20,6 @@ of_++ n (x ∷ xs) ys = let ih = of_++ n xs ys in grind arith
 pub tally_++ : (t : DeliveryTag) (xs ys : List Entry) → tally t (xs ++ ys) ≡ tally t xs + tally t ys
 tally_++ t [] ys = omega arith
 tally_++ t (x ∷ xs) ys = omega (arith, tally_++ t xs ys)
-
--- a tag that no entry has
-pub tally_absent : (t : DeliveryTag) (xs : List Entry) → is_some (look t xs) ≡ false → tally t xs ≡ 0
-tally_absent t [] h = refl
-tally_absent t (x ∷ xs) h = let ih = tally_absent t xs in grind arith
 
 tally_last : (t : DeliveryTag) (x : Entry) (xs : List Entry) → one (same_tag (last x xs).tag t) + tally t (but_last x xs) ≡ tally t (x ∷ xs)
 tally_last t x [] = refl

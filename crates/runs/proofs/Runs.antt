@@ -5,15 +5,18 @@ use Rattle.link.specs.Views.{View}
 use Rattle.runs.specs.Runs.{Run, Making, made, ◌▹◌, after}
 use Rattle.runs.specs.Safe.{Safe, EveryRunSafe, SafeAfter, Begun}
 use Rattle.runs.proofs.Going.{puts_right}
-use Rattle.runs.proofs.Lived.{lived, for_good}
+use Rattle.runs.proofs.Lived.{lived, as_lived, for_good}
+use Rattle.runs.proofs.Never.{never_in_the_way}
+use Rattle.runs.proofs.Sound.{sound}
 use Rattle.runs.proofs.Telling.{tells}
 
 safe : (r : Run) → Safe r (after r)
 safe r =
     record {
-      no_delivery_lost_or_ended_twice = λ n. (lived n r).stands;
+      no_delivery_lost_or_ended_twice = λ n. as_lived n r;
       no_number_given_twice = λ n. (lived n r).births;
       ticket_tells_the_outcome = λ n. tells n r;
+      never_in_the_way = never_in_the_way (after r) (sound r);
       ended_for_good = λ n. for_good n r;
     }
 

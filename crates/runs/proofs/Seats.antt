@@ -7,7 +7,7 @@ use Rattle.link.specs.declared.seat.Seat.{Seat}
 use Rattle.link.specs.declared.seat.Seat.TheVariants.{Free, Pending, Ended}
 use Rattle.link.specs.Seats.{is_free, sit, tell, vacate, seat_of}
 use Rattle.link.specs.Turns.{End, sit_all, tell_all, vacate_all}
-use Rattle.runs.proofs.Onward.{among, outcomes}
+use Rattle.runs.proofs.Words.{among, outcomes}
 
 -- a seat that is taken tells how the delivery ended; one that is not stays so
 abbrev pub telling : Option (Option Outcome) → Outcome → Option (Option Outcome)

@@ -8,8 +8,7 @@ use Rattle.amqp.specs.declared.error.TicketError.TheVariants.{NoSeat}
 use Rattle.link.specs.declared.delivery.Outcome.{Outcome}
 use Rattle.link.specs.declared.delivery.Sendable.{Sendable}
 use Rattle.link.specs.declared.seat.Seat.TheVariants.{Free}
-use Rattle.link.specs.Attaching.{open_refusal, opened, attach_refusal, attached}
-use Rattle.link.specs.Calls.{Call, Open, Attach, Flow, Send, Disposition, Look, Collect, turn}
+use Rattle.link.specs.Calls.{Call, Open, Attach, Flow, Send, Disposition, Dispose, Work, Resend, Detach, Look, Collect, turn}
 use Rattle.link.specs.Disposing.{looked}
 use Rattle.link.specs.Rows.{unless}
 use Rattle.link.specs.Seats.{seat_of, is_free}
@@ -18,25 +17,13 @@ use Rattle.link.specs.Turns.{stay, sit_all, tell_all}
 use Rattle.link.specs.Views.{View}
 use Rattle.link.proofs.Sending.{clear, own_clear}
 use Rattle.runs.specs.Lives.{Life, unborn, standing, over, life, born, progress}
-use Rattle.runs.specs.Runs.{Run, made, ◌▹◌, after, one, gives, spends, given, collected}
-use Rattle.runs.proofs.Lived.{lived, going_on, begins_given, none_in, disposal_plain}
-use Rattle.runs.proofs.Onward.{last_word, among, outcomes}
+use Rattle.runs.specs.Runs.{Run, made, ◌▹◌, after, one, gives, given, collected}
+use Rattle.runs.proofs.Lived.{lived, going_on}
 use Rattle.runs.proofs.Seats.{telling_all, seat_tell_all, seat_sit, seat_sit_others, seat_vacate_all, seat_none_left, telling_none, progress_of, telling_progress}
+use Rattle.runs.proofs.Tickets.{fair}
+use Rattle.runs.proofs.Words.{last_word, among, outcomes}
 
--- ---- what a turn spends, and what sits down in it
-
-spent_sent : (v : View) (m : Sendable) (b : Bool) → (sent_as b v m).spent ≡ []
-spent_sent v m true = refl
-spent_sent v m false = refl
-
-spends_spent : (v : View) (c : Call) (n : ℕ) → among n (turn v c).spent ≡ spends n c
-spends_spent v (Open handle incomplete) n = ap (among n) (none_in (λ u. u.spent) v (open_refusal v incomplete) (opened v handle incomplete) refl refl)
-spends_spent v (Attach a pool) n = ap (among n) (none_in (λ u. u.spent) v (attach_refusal v a pool) (attached v a) refl refl)
-spends_spent v (Flow i) n = refl
-spends_spent v (Send c m) n = ap (among n) (none_in (λ u. u.spent) v (send_refusal v c m) (sent v m) refl (spent_sent v m (goes_settled v m)))
-spends_spent v (Disposition t b s) n = ap (among n) (disposal_plain v t b s).1
-spends_spent v (Look k) n = refl
-spends_spent v (Collect k) n = omega arith
+-- ---- what sits down in a turn
 
 -- a delivery that begins finds a seat
 sits : (v : View) (c : Carrier) (m : Sendable) (n : ℕ) (o : Option SendError) → send_refusal v c m ≡ o → seat_of n v.seats ≡ None
@@ -56,11 +43,15 @@ sits v c m n None q h a = go (goes_settled v m) refl a
 
 -- whatever call: one that begins the number's delivery
 sits_down : (v : View) (c : Call) (n : ℕ) → seat_of n v.seats ≡ None → among n (turn v c).begun ≡ 1 → seat_of n (sit_all (turn v c).begun v.seats) ≡ Some None
-sits_down v (Open handle incomplete) n h a = absurd (omega (arith, begins_given v (Open handle incomplete) n))
-sits_down v (Attach r pool) n h a = absurd (omega (arith, begins_given v (Attach r pool) n))
+sits_down v (Open handle incomplete) n h a = absurd (omega (arith, (fair n v (Open handle incomplete)).begins))
+sits_down v (Attach r pool) n h a = absurd (omega (arith, (fair n v (Attach r pool)).begins))
 sits_down v (Flow i) n h a = absurd (omega arith)
 sits_down v (Send c m) n h a = sits v c m n (send_refusal v c m) refl h a
-sits_down v (Disposition t b s) n h a = absurd (omega (arith, begins_given v (Disposition t b s) n))
+sits_down v (Disposition t b s) n h a = absurd (omega (arith, (fair n v (Disposition t b s)).begins))
+sits_down v (Dispose sink d) n h a = absurd (omega (arith, (fair n v (Dispose sink d)).begins))
+sits_down v (Work c) n h a = absurd (omega (arith, (fair n v (Work c)).begins))
+sits_down v (Resend c) n h a = absurd (omega (arith, (fair n v (Resend c)).begins))
+sits_down v (Detach closed error) n h a = absurd (omega (arith, (fair n v (Detach closed error)).begins))
 sits_down v (Look k) n h a = absurd (omega arith)
 sits_down v (Collect k) n h a = absurd (omega arith)
 
@@ -95,7 +86,7 @@ module _ (n : ℕ) (r : Run) (c : Call) (h : Seated n r) where
   untaken' : given n (r ▹ c) ≡ 0 → seat_of n (after (r ▹ c)).seats ≡ None
   untaken' g =
       let u = turn (after r) c in
-      let k = begins_given (after r) c n in
+      let k = (fair n (after r) c).begins in
       seat_none_left n u.spent (tell_all u.ends (sit_all u.begun (after r).seats))
       (seat_tell_all n u.ends (sit_all u.begun (after r).seats)
       ∙ ap (λ x. telling_all x (outcomes n u.ends)) (seat_sit_others n u.begun (after r).seats (omega arith) ∙ h.untaken (omega arith))
@@ -105,7 +96,7 @@ module _ (n : ℕ) (r : Run) (c : Call) (h : Seated n r) where
   sat g z = go (given n r) refl
     where
       k : among n (turn (after r) c).begun ≡ gives n (after r) c
-      k = begins_given (after r) c n
+      k = (fair n (after r) c).begins
 
       go : (s : ℕ) → given n r ≡ s → seat_of n (sit_all (turn (after r) c).begun (after r).seats) ≡ Some (progress (life r n))
       go zero q =
@@ -116,7 +107,7 @@ module _ (n : ℕ) (r : Run) (c : Call) (h : Seated n r) where
   taken' : given n (r ▹ c) ≡ 1 → collected n (r ▹ c) ≡ 0 → seat_of n (after (r ▹ c)).seats ≡ Some (progress (life (r ▹ c) n))
   taken' g z =
       let u = turn (after r) c in
-      let s = spends_spent (after r) c n in
+      let s = (fair n (after r) c).spent in
       seat_vacate_all n u.spent (tell_all u.ends (sit_all u.begun (after r).seats)) (omega arith)
       ∙ seat_tell_all n u.ends (sit_all u.begun (after r).seats)
       ∙ ap (λ x. telling_all x (outcomes n u.ends)) (sat g (omega arith))

@@ -4,7 +4,6 @@ use Rattle.std.specs.Prelude.{◌≡◌, ℕ, Bool, true, false, cond, ◌||◌,
 use Rattle.amqp.specs.declared.condition.AmqpError.{AmqpError}
 use Rattle.amqp.specs.declared.state.DeliveryState.{DeliveryState}
 use Rattle.unsettled.specs.Tables.{same_tag}
-use Rattle.link.specs.declared.delivery.Disposal.{Disposal}
 use Rattle.link.specs.declared.delivery.Outcome.{Outcome}
 use Rattle.link.specs.declared.delivery.Outcome.TheVariants.{State, NoState}
 use Rattle.link.specs.declared.delivery.Sendable.{Sendable}
