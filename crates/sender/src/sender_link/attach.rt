@@ -3,6 +3,7 @@ ghost use Rattle.std.specs.Prelude.{◌≡◌};
 ghost use Rattle.link.specs.Attaching.{attach_answer, attach_refusal, attached_state, late_refusal, attached_settings, exchanged};
 ghost use Rattle.link.specs.Calls.{Attach as AttachCall, step};
 ghost use Rattle.link.specs.Rows.{gated};
+ghost use Rattle.runs.specs.Safe.{SafeAfter};
 ghost use Rattle.sender.specs.Views.{with_settings};
 
 use super::SenderLink;
@@ -73,6 +74,7 @@ impl<'a> SenderLink<'a> {
     ) -> Result<SenderAttachExchange, SenderAttachError>
         ensures answer { result ≡ attach_answer self.old attach.now pool.now }
         ensures link { self.new ≡ step self.old (AttachCall attach.now pool.now) }
+        ensures no_delivery_lost_or_ended_twice { SafeAfter self.old (AttachCall attach.now pool.now) self.new }
     {
         self.local_state = self.may_attach(attach, pool)?;
         self.input_handle = Some(attach.handle);

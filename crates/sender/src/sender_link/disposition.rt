@@ -4,6 +4,7 @@ ghost use Rattle.link.specs.Calls.{Disposition, step};
 ghost use Rattle.link.specs.Disposing.{settle_back, disposed_as};
 ghost use Rattle.link.specs.Turns.{landed};
 ghost use Rattle.unsettled.specs.Tables.{look};
+ghost use Rattle.runs.specs.Safe.{SafeAfter};
 
 use super::SenderLink;
 use amqp::mode::ReceiverSettleMode;
@@ -57,6 +58,7 @@ impl<'a> SenderLink<'a> {
     ) -> bool
         ensures answer { result ≡ settle_back self.old settled state }
         ensures link { self.new ≡ step self.old (Disposition tag.now settled state) }
+        ensures no_delivery_lost_or_ended_twice { SafeAfter self.old (Disposition tag.now settled state) self.new }
     {
         let waits = !settled
             && is_terminal(state)

@@ -1,6 +1,7 @@
 // Making a link.
 ghost use Rattle.std.specs.Prelude.{◌≡◌, length, IfOk};
 ghost use Rattle.link.specs.Views.{made};
+ghost use Rattle.runs.specs.Safe.{Begun};
 ghost use Rattle.sender.specs.Views.{rooms_of};
 
 use super::SenderLink;
@@ -29,6 +30,7 @@ impl<'a> SenderLink<'a> {
         seats: &'a mut [Seat],
     ) -> Result<SenderLink<'a>, MakeError>
         ensures link { result ≡ made settings initial_delivery_count (rooms_of (length table.old) (length resume.old) (length resend.old)) (length seats.old) }
+        ensures no_delivery_lost_or_ended_twice { IfOk result (λ l. Begun l) }
     {
         if table.is_empty()
             || table.len() > MOST

@@ -2,6 +2,7 @@
 ghost use Rattle.std.specs.Prelude.{◌≡◌};
 ghost use Rattle.link.specs.Attaching.{open_answer};
 ghost use Rattle.link.specs.Calls.{Open, step};
+ghost use Rattle.runs.specs.Safe.{SafeAfter};
 
 use super::SenderLink;
 use amqp::error::LinkStateError;
@@ -16,6 +17,7 @@ impl<'a> SenderLink<'a> {
     ) -> Result<LinkState, LinkStateError>
         ensures answer { result ≡ open_answer self.old incomplete_unsettled }
         ensures link { self.new ≡ step self.old (Open handle incomplete_unsettled) }
+        ensures no_delivery_lost_or_ended_twice { SafeAfter self.old (Open handle incomplete_unsettled) self.new }
     {
         let state = self
             .local_state

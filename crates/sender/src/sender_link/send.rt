@@ -2,6 +2,7 @@
 ghost use Rattle.std.specs.Prelude.{◌≡◌, ◌+◌, ◌≤◌, false, length, IfOk};
 ghost use Rattle.link.specs.Sending.{carrier, ready, busy, transfer_of, next_tag, tag_there, table_full};
 ghost use Rattle.link.specs.Calls.{Send};
+ghost use Rattle.runs.specs.Safe.{SafeAfter};
 ghost use Rattle.sender.specs.Sends.{addable, planned, added, HandedOver, Sends, Uncollected};
 
 use super::SenderLink;
@@ -154,6 +155,7 @@ impl<'a> SenderLink<'a> {
     ) -> Result<Settlement, SendError>
         ensures sends { Sends self.old (carrier (E.bytes encoder.now) pool.now (S.model sink.old)) message.now result self.new (S.model sink.new) }
         ensures uncollected { IfOk result Uncollected }
+        ensures no_delivery_lost_or_ended_twice { SafeAfter self.old (Send (carrier (E.bytes encoder.now) pool.now (S.model sink.old)) message.now) self.new }
     {
         let plan = self.may_send(encoder, pool, message)?;
         self.do_send(sink, pool, message, &plan)

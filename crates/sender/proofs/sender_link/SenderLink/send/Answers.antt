@@ -3,6 +3,7 @@ use Rattle.link.specs.Rows.{first}
 use Rattle.link.specs.Sending.{carrier, own_rows, transfer_of, send_refusal}
 use Rattle.link.proofs.Rows.{err_by, gated_err, gated_ok, accepted}
 use Rattle.link.specs.Calls.{Send}
+use Rattle.runs.proofs.Runs.{safe_after}
 use Rattle.sender.specs.Sends.{answered, plan_of}
 use Rattle.link.proofs.Sending.{clear, carries}
 use Rattle.sender.proofs.Sending.{refused_answer, refused_link, refused_sink, refused_carries, whole_answer, whole_link, whole_sink}
@@ -25,6 +26,7 @@ returns-in_err-plan g c =
         carries = refused_carries v k m _ _ e;
       };
       uncollected = rw r tt;
+      no_delivery_lost_or_ended_twice = safe_after v (Send k m) v l;
     }
 
 pub do_send-requires : goal.do_send-requires
@@ -54,4 +56,5 @@ returns g c =
         carries = accepted (send_refusal v k m) (carries v k m w (clear v k m e.0));
       };
       uncollected = c.do_send.ensures.uncollected;
+      no_delivery_lost_or_ended_twice = safe_after v (Send k m) _ l;
     }
