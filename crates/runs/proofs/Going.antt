@@ -27,6 +27,7 @@ use Rattle.link.specs.Sending.{Carrier, message, none_left, ready, transfer_of, 
 use Rattle.link.specs.Views.{View, Entry}
 use Rattle.link.specs.Working.{past, start_in, resume_task, restate_task, abort_task, settling_task, working, task_payload, task_frames, task_rows, item_rows, item_frames, work_refusal, worked_frames}
 use Rattle.link.proofs.Rows.{all_none, row_off}
+use Rattle.link.proofs.Working.{past_is}
 use Rattle.link.proofs.Sending.{clear, own_clear, place_clear, fits_clear, length_message}
 use Rattle.runs.specs.Frames.{carrying, Laid, PutsTransfer, WorkPuts, ResendPuts, GoesOut, PutsRight}
 
@@ -74,18 +75,9 @@ puts_sent : (v : View) (c : Carrier) (m : Sendable) → send_refusal v c m ≡ N
 puts_sent v c m h =
     let k = clear v c m (own_clear v c m h) in
     puts_transfer v c (transfer_of v m) (message c.pool m.place)
-    (omega (arith, k.fits, ap (λ n. min (max 1 (share_by v c (transfer_of v m))) n) (length_message c.pool m.place k.place)))
+    (omega (arith, fits_clear v.settings.max_frame_size (size_for v c m) m.place.len k.fits, ap (λ n. min (max 1 (share_by v c (transfer_of v m))) n) (length_message c.pool m.place k.place)))
 
 -- ---- work
-
-drop_taken : (k n : ℕ) (xs : List ℕ) → drop k (take n xs) ≡ take (n - k) (drop k xs)
-drop_taken zero n xs = let e : n ≡ n - zero = omega arith in ap (λ j. take j xs) e
-drop_taken (suc k) zero xs = let e : 0 ≡ zero - suc k = omega arith in ap (λ j. take j (drop (suc k) xs)) e
-drop_taken (suc k) (suc n) [] = sym (take_all (suc n - suc k) [] (omega arith))
-drop_taken (suc k) (suc n) (x ∷ xs) = let e : n - k ≡ suc n - suc k = omega arith in drop_taken k n xs ∙ ap (λ j. take j (drop k xs)) e
-
-past_is : (pool : List ℕ) (k : ℕ) (p : Place) → message pool (past k p) ≡ drop k (message pool p)
-past_is pool k p = ap (take (p.len - k)) (sym (drop-drop k p.start pool)) ∙ sym (drop_taken k p.len (drop p.start pool))
 
 -- a task's transfer carries its payload
 puts_task : (v : View) (c : Carrier) (t : Task) (msg : List ℕ) → task_payload c t ≡ msg → length msg ≡ t.payload.len → AllByRecursion (λ o. o ≡ None) (task_rows v c t)

@@ -1,5 +1,6 @@
 -- A step through the resume list, from the task of its first item.
 use Rattle.std.proofs.Common.{◌≡◌, ℕ, Bool, true, List, [], ◌∷◌, ◌++◌, drop, length, Some, None, Ok, Err, Option, Result, sym, refl, ap, ◌∙◌, subst}
+use Rattle.std.specs.List.{slice_get}
 use Rattle.amqp.specs.declared.error.SendError.{SendError}
 use Rattle.sink.specs.Frames.{Frame, Model}
 use Rattle.link.specs.declared.resumption.Progress.{Progress}
@@ -39,3 +40,13 @@ finished v c k w x t h e =
       sink = h.sink;
       carries = h.carries;
     }
+
+-- a payload by another name
+pub paid : {A : Type 0} (o : Option SendError) (a : A) (u : Turn) (fs : List Frame) (p q : List ℕ) (v : View) (c : Carrier) (r : Result A SendError) (w : View) (t : Model) → p ≡ q
+    → Puts o a u fs p v c r w t → Puts o a u fs q v c r w t
+paid o a u fs p q v c r w t e h = subst (λ x. Puts o a u fs x v c r w t) e h
+
+-- the first of a list, and the rest
+pub first_is : {X : Type 0} (xs : List X) (x : X) → slice_get xs 0 ≡ Some x → xs ≡ x ∷ drop 1 xs
+first_is [] x h = absurd (cc)
+first_is (y ∷ ys) x h = cc
