@@ -1,4 +1,5 @@
 pub mod Carrying
 pub mod Working
+pub mod Resending
 pub mod Attaching
 pub mod Sending

@@ -3,3 +3,4 @@ pub mod Tasks
 pub mod Puts
 pub mod Sends
 pub mod Works
+pub mod Resends

@@ -16,6 +16,7 @@ pub mod disposition;
 pub mod flow;
 pub mod making;
 pub mod open;
+pub mod resend;
 pub mod send;
 pub mod tickets;
 pub mod work;

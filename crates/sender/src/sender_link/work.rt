@@ -3,10 +3,12 @@ ghost use Rattle.std.specs.Prelude.{◌≡◌, ◌+◌, ◌≤◌, length, drop,
 ghost use Rattle.std.specs.List.{slice_get};
 ghost use Rattle.amqp.specs.declared.error.SendError.TheVariants.{TableFull};
 ghost use Rattle.link.specs.declared.resumption.Progress.TheVariants.{Worked};
+ghost use Rattle.link.specs.Calls.{Work};
 ghost use Rattle.link.specs.Rows.{gated, row, unless};
 ghost use Rattle.link.specs.Sending.{carrier};
 ghost use Rattle.link.specs.Turns.{stay, landed};
 ghost use Rattle.link.specs.Working.{working, coming_back, resume_task, restate_task, abort_task, settling_task, resend_full};
+ghost use Rattle.runs.specs.Safe.{SafeAfter};
 ghost use Rattle.sender.specs.Views.{resuming_with};
 ghost use Rattle.sender.specs.Works.{Inside, Finished, MessageDone, ItemDone, postponed, Works};
 
@@ -241,6 +243,7 @@ impl<'a> SenderLink<'a> {
         pool: &[u8],
     ) -> Result<Progress, SendError>
         ensures works { Works self.old (carrier (E.bytes encoder.now) pool.now (S.model sink.old)) result self.new (S.model sink.new) }
+        ensures no_delivery_lost_or_ended_twice { SafeAfter self.old (Work (carrier (E.bytes encoder.now) pool.now (S.model sink.old))) self.new }
     {
         if !self.is_working() {
             return Err(SendError::LinkState(LinkStateError::IllegalState));
