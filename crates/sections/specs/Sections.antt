@@ -3,7 +3,8 @@ use Rattle.std.specs.Prelude.{◌≡◌, ℕ, zero, suc, ◌+◌, ◌-◌, ◌<�
 use Rattle.std.specs.List.{find, range_with_len}
 use Rattle.amqp.specs.declared.state.Received.{Received}
 
--- the three bytes with which a section begins: a descriptor, in one byte or in eight, and a code from header to footer
+-- the three bytes by which the beginning of a section is told: that of a described value, the code of a descriptor in one byte or
+-- in eight, and a section's code, from header to footer. What stands around them is not looked at
 abbrev pub section_header : ℕ → ℕ → ℕ → Bool
 section_header b0 b1 b2 = b0 == 0 && ((b1 == 83 || b1 == 128) && (nat_le 112 b2 && nat_le b2 120))
 

@@ -18,7 +18,7 @@ const HEADER_CODE: u8 = 0x70;
 
 const FOOTER_CODE: u8 = 0x78;
 
-// A section begins with these three bytes.
+// These three bytes are taken for the beginning of a section, wherever they stand.
 pub fn is_section_header(b0: u8, b1: u8, b2: u8) -> bool
     ensures { result ≡ section_header b0 b1 b2 }
 {

@@ -1,5 +1,5 @@
 -- What a table tells the peer of its deliveries, as an attach brings it (Part 2, 2.7.3).
-use Rattle.std.specs.Prelude.{ℕ, ◌/◌, max, Bool, true, false, cond, List, [], ◌∷◌, ◌++◌, map, length, take, drop, Some, None, Ok, Err, Option, Result, nat_lt}
+use Rattle.std.specs.Prelude.{◌≡◌, ℕ, ◌+◌, ◌*◌, ◌/◌, ◌<◌, ◌≤◌, max, Bool, true, false, cond, List, [], ◌∷◌, ◌++◌, map, length, take, drop, Some, None, Ok, Err, Option, Result, nat_lt, slice_index_or}
 use Rattle.amqp.specs.declared.error.MemoryError.{MemoryError}
 use Rattle.amqp.specs.declared.error.MemoryError.TheVariants.{TooShort}
 use Rattle.amqp.specs.declared.state.DeliveryState.{DeliveryState}
@@ -28,3 +28,11 @@ shown_answer n (Some ps) = cond (nat_lt n (length ps)) (Err TooShort) (Ok (Some 
 abbrev pub shown_memory : {P : Type 0} → List P → Option (List P) → List P
 shown_memory out None = out
 shown_memory out (Some ps) = cond (nat_lt (length out) (length ps)) out (ps ++ drop (length ps) out)
+
+-- What pairs tell of the table xs: all of its entries for a denominator of 0 or 1, and else as many as go that many times into it;
+-- these are its first ones, in order, each by its tag and its state.
+pub record Tells {M : Type 0} (state : M → Option DeliveryState) (denominator : ℕ) (xs : List (Slot M)) (pairs : List (Slot (Option DeliveryState))) : Type 0 where
+  pub all : denominator ≤ 1 → length pairs ≡ length xs
+  pub some : 1 < denominator → (length pairs * denominator ≤ length xs) × (length xs < length pairs * denominator + denominator)
+  pub tags : (k : ℕ) (p : Slot (Option DeliveryState)) (x : Slot M) → k < length pairs → (slice_index_or pairs k p).tag ≡ (slice_index_or xs k x).tag
+  pub states : (k : ℕ) (p : Slot (Option DeliveryState)) (x : Slot M) → k < length pairs → (slice_index_or pairs k p).entry ≡ state (slice_index_or xs k x).entry

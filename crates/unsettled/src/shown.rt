@@ -1,8 +1,8 @@
 // What a table tells the peer of its deliveries, as an attach brings it (Part 2, 2.7.3).
-ghost use Rattle.std.specs.Prelude.{◌≡◌, ◌≤◌, ◌++◌, map, length, drop, Option};
+ghost use Rattle.std.specs.Prelude.{◌≡◌, ◌≤◌, ◌++◌, map, length, take, drop, Option, IfSome, IfOk};
 ghost use Rattle.amqp.specs.declared.state.DeliveryState.{DeliveryState as State};
 ghost use Rattle.unsettled.specs.Tables.{held};
-ghost use Rattle.unsettled.specs.Shown.{shown_slot, shown_pairs, shown_answer, shown_memory};
+ghost use Rattle.unsettled.specs.Shown.{shown_slot, shown_pairs, shown_answer, shown_memory, Tells};
 
 use crate::map::UnsettledMap;
 use crate::slot::Slot;
@@ -51,6 +51,7 @@ impl<'a, M: Copy + AsDeliveryState> UnsettledMap<'a, M> {
         out: &mut [Slot<Option<DeliveryState>>],
     ) -> Result<Option<usize>, MemoryError>
         ensures answer { result ≡ shown_answer (length out.old) (shown_pairs M.state is_reattaching partial_unsettled (held self.now)) }
+        ensures tells { IfOk result (λ o. IfSome o (λ n. Tells M.state partial_unsettled (held self.now) (take n out.new))) }
         ensures memory { out.new ≡ shown_memory out.old (shown_pairs M.state is_reattaching partial_unsettled (held self.now)) }
     {
         let slots = self.front();
