@@ -24,11 +24,18 @@ use Rattle.link.specs.Views.{View}
 abbrev pub recording : Option DeliveryState → UnsettledMessage → UnsettledMessage
 recording s m = record { place = m.place; state = recorded m.state s; message_format = m.message_format; ticket = m.ticket }
 
--- a delivery's entry is taken out and it ends, or the state is recorded
+-- an entry is taken out, and its delivery ends with this state or none
+abbrev pub taken_out : DeliveryTag → Option DeliveryState → UnsettledMessage → View → Turn
+taken_out t s m v =
+    holding v (with_table (swap_removed t v.held.table) v.held) (record { number = m.ticket; outcome = outcome_of s } ∷ [])
+
+-- the state told is recorded
+abbrev pub noted : DeliveryTag → Option DeliveryState → UnsettledMessage → View → Turn
+noted t s m v = holding v (with_table (put_in t (recording s m) v.held.table) v.held) []
+
 abbrev pub disposed_as : (ends : Bool) → DeliveryTag → Option DeliveryState → UnsettledMessage → View → Turn
-disposed_as true t s m v =
-    holding v (with_table (swap_removed t v.held.table) v.held) (record { number = m.ticket; outcome = outcome_of (recorded m.state s) } ∷ [])
-disposed_as false t s m v = holding v (with_table (put_in t (recording s m) v.held.table) v.held) []
+disposed_as true t s m v = taken_out t (recorded m.state s) m v
+disposed_as false t s m v = noted t s m v
 
 abbrev pub disposed_at : Option UnsettledMessage → DeliveryTag → (settled : Bool) → Option DeliveryState → View → Turn
 disposed_at None t settled s v = stay v
@@ -58,9 +65,8 @@ dispose_refusal v sink = cond (sends_settled v) None (fault_at sink 0 1)
 
 -- settled, the delivery ends with the state that was recorded; else the state told is recorded
 abbrev pub disposed_here_as : (settled : Bool) → Disposal → UnsettledMessage → View → Turn
-disposed_here_as true d m v =
-    holding v (with_table (swap_removed d.delivery_tag v.held.table) v.held) (record { number = m.ticket; outcome = outcome_of m.state } ∷ [])
-disposed_here_as false d m v = holding v (with_table (put_in d.delivery_tag (recording (Some d.state) m) v.held.table) v.held) []
+disposed_here_as true d m v = taken_out d.delivery_tag m.state m v
+disposed_here_as false d m v = noted d.delivery_tag (Some d.state) m v
 
 abbrev pub disposed_here_at : Option UnsettledMessage → Disposal → View → Turn
 disposed_here_at None d v = stay v

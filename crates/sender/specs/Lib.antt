@@ -4,3 +4,5 @@ pub mod Puts
 pub mod Sends
 pub mod Works
 pub mod Resends
+pub mod Disposes
+pub mod Detaches

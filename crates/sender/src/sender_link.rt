@@ -12,6 +12,8 @@ use unsettled::worklist::Worklist;
 
 pub mod attach;
 mod carry;
+pub mod detach;
+pub mod dispose;
 pub mod disposition;
 pub mod flow;
 pub mod making;

@@ -1,7 +1,7 @@
 // The peer's disposition of a delivery.
-ghost use Rattle.std.specs.Prelude.{◌≡◌, true, false, Some};
+ghost use Rattle.std.specs.Prelude.{◌≡◌, Some};
 ghost use Rattle.link.specs.Calls.{Disposition, step};
-ghost use Rattle.link.specs.Disposing.{settle_back, disposed_as};
+ghost use Rattle.link.specs.Disposing.{settle_back, taken_out, noted};
 ghost use Rattle.link.specs.Turns.{landed};
 ghost use Rattle.unsettled.specs.Tables.{look};
 ghost use Rattle.runs.specs.Safe.{SafeAfter};
@@ -14,21 +14,28 @@ use link::delivery::{Outcome, is_terminal, record_state};
 use unsettled::message::UnsettledMessage;
 
 impl<'a> SenderLink<'a> {
-    // The delivery of a tag ends with the state told, or with the outcome that was told before.
-    fn end(&mut self, tag: &DeliveryTag, entry: &UnsettledMessage, state: Option<DeliveryState>)
-        ensures { self.new ≡ landed self.old (disposed_as true tag.now state entry.now self.old) }
+    // The delivery of a tag ends with a state, or with none.
+    pub(super) fn end(
+        &mut self,
+        tag: &DeliveryTag,
+        entry: &UnsettledMessage,
+        state: Option<DeliveryState>,
+    )
+        ensures { self.new ≡ landed self.old (taken_out tag.now state entry.now self.old) }
     {
         let _entry = self.unsettled.swap_remove(tag);
-        self.seats.tell(
-            entry.ticket,
-            Outcome::from(record_state(entry.state, state)),
-        );
+        self.seats.tell(entry.ticket, Outcome::from(state));
     }
 
-    // The state of a tag's delivery is recorded.
-    fn record(&mut self, tag: &DeliveryTag, entry: &UnsettledMessage, state: Option<DeliveryState>)
+    // The state of a tag's delivery is recorded, unless an outcome was before.
+    pub(super) fn record(
+        &mut self,
+        tag: &DeliveryTag,
+        entry: &UnsettledMessage,
+        state: Option<DeliveryState>,
+    )
         requires { look tag.now self.old.held.table ≡ Some entry.now }
-        ensures { self.new ≡ landed self.old (disposed_as false tag.now state entry.now self.old) }
+        ensures { self.new ≡ landed self.old (noted tag.now state entry.now self.old) }
     {
         let recorded = UnsettledMessage {
             state: record_state(entry.state, state),
@@ -42,7 +49,7 @@ impl<'a> SenderLink<'a> {
     {
         if let Some(entry) = self.unsettled.get(tag) {
             if settled || is_terminal(state) {
-                self.end(tag, &entry, state);
+                self.end(tag, &entry, record_state(entry.state, state));
             } else {
                 self.record(tag, &entry, state);
             }
