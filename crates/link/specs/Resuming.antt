@@ -5,6 +5,7 @@ use Rattle.amqp.specs.declared.state.DeliveryState.{DeliveryState}
 use Rattle.amqp.specs.declared.state.DeliveryState.TheVariants.{Received, Accepted, Rejected, Released, Modified}
 use Rattle.amqp.specs.declared.state.Received.{Received as Reached}
 use Rattle.amqp.specs.States.{no_further}
+use Rattle.unsettled.specs.declared.slot.Slot.{Slot}
 use Rattle.unsettled.specs.Peers.{peers_of}
 use Rattle.unsettled.specs.Tables.{look}
 use Rattle.link.specs.declared.attach.Attach.{Attach}
@@ -88,9 +89,12 @@ decided (outcome o) (has_outcome s) = cond (same_kind o s) (Settle o) RestateOut
 abbrev pub resumption : Option DeliveryState → Option (Option DeliveryState) → Resumption
 resumption local peer = decided (ours local) (theirs peer)
 
--- what an attach decides of an entry
+-- what is decided of an entry by what the peer's map says of its tag
+abbrev pub judged_by : List (Slot (Option DeliveryState)) → Entry → Resumption
+judged_by told e = resumption e.entry.state (look e.tag told)
+
 abbrev pub judge : Attach → Entry → Resumption
-judge a e = resumption e.entry.state (look e.tag (peers_of a.unsettled.now))
+judge a e = judged_by (peers_of a.unsettled.now) e
 
 -- the item that joins the resume list
 abbrev pub item_for : Resumption → Entry → List ResumingDelivery

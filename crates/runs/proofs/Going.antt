@@ -1,8 +1,8 @@
 -- What a call puts is what it ought to put.
-use Rattle.std.proofs.Common.{◌≡◌, ℕ, zero, suc, ◌+◌, ◌-◌, ◌*◌, ◌/◌, ◌≤◌, min, max, Bool, true, false, not, ltb, List, [], ◌∷◌, map, length, take, drop, is_some, Some, None, Option, sym, refl, ap, ◌∙◌, subst, true≢false, add-one, drop-drop, arith}
+use Rattle.std.proofs.Common.{◌≡◌, ℕ, zero, suc, ◌+◌, ◌-◌, ◌*◌, ◌/◌, ◌≤◌, min, max, Bool, true, false, not, ltb, List, [], ◌∷◌, map, length, drop, is_some, Some, None, Option, sym, refl, ap, ◌∙◌, subst, true≢false, add-one, arith}
 use Rattle.std.specs.List.{AllByRecursion, range_with_len}
 use Rattle.std.specs.Option.{unwrap_or}
-use Rattle.std.proofs.lemmas.List.{length-take, length-drop, take_all}
+use Rattle.std.proofs.lemmas.List.{length-take, length-drop}
 use Rattle.std.proofs.lemmas.Bool.{lt-ltb, le-ltb}
 use Rattle.amqp.specs.declared.error.LinkStateError.TheVariants.{IllegalState}
 use Rattle.amqp.specs.declared.error.SendError.TheVariants as fault
@@ -25,7 +25,7 @@ use Rattle.link.specs.Resending.{again, again_rows, again_frames, resend_refusal
 use Rattle.link.specs.Rows.{row, unless}
 use Rattle.link.specs.Sending.{Carrier, message, none_left, ready, transfer_of, share_by, narrow, size_for, cut, send_refusal, sent_frames}
 use Rattle.link.specs.Views.{View, Entry}
-use Rattle.link.specs.Working.{past, start_in, resume_task, restate_task, abort_task, settling_task, working, task_payload, task_frames, task_rows, item_rows, item_frames, work_refusal, worked_frames}
+use Rattle.link.specs.Working.{start_in, resume_task, restate_task, abort_task, settling_task, working, task_payload, task_frames, task_rows, item_rows, item_frames, work_refusal, worked_frames}
 use Rattle.link.proofs.Rows.{all_none, row_off}
 use Rattle.link.proofs.Working.{past_is}
 use Rattle.link.proofs.Sending.{clear, own_clear, place_clear, fits_clear, length_message}

@@ -1,15 +1,13 @@
 -- A task from its halves: what refuses it here, and what the sink says.
-use Rattle.std.proofs.Common.{◌≡◌, ℕ, ◌+◌, ◌≤◌, min, max, [], ◌∷◌, List, length, Some, None, Ok, Err, Option, Result, map, sym, refl, ap, ◌∙◌, subst, arith}
+use Rattle.std.proofs.Common.{◌≡◌, [], ◌∷◌, length, Some, None, Ok, Err, Option, Result, sym, ap, ◌∙◌, subst}
 use Rattle.std.proofs.lemmas.List.FromFn.{length-map-range_with_len}
-use Rattle.std.specs.Option.{unwrap_or}
 use Rattle.amqp.specs.declared.error.SendError.{SendError}
 use Rattle.amqp.specs.declared.error.SendError.TheVariants as fault
-use Rattle.amqp.specs.declared.header.Transfer.{Transfer}
-use Rattle.amqp.specs.Headers.{Widest, measured}
+use Rattle.amqp.specs.Headers.{Widest}
 use Rattle.sink.specs.Frames.{Model, After}
 use Rattle.link.specs.declared.resumption.Task.{Task}
 use Rattle.link.specs.Rows.{first, gated, unless}
-use Rattle.link.specs.Sending.{Carrier, sink_row, share_by, share_of, narrow, cut, frames_needed}
+use Rattle.link.specs.Sending.{Carrier, sink_row, share_by, frames_needed}
 use Rattle.link.specs.Turns.{stay, landed}
 use Rattle.link.specs.Views.{View}
 use Rattle.link.specs.Working.{task_payload, task_frames, task_rows, tasked}

@@ -1,5 +1,5 @@
 -- Lists that go back into the table, or are told, one element at a time.
-use Rattle.std.proofs.Common.{◌≡◌, ℕ, suc, ◌+◌, ◌<◌, ◌≤◌, Bool, true, false, ◌||◌, List, [], ◌∷◌, ◌++◌, length, get_or, take, drop, is_some, Some, Ok, Err, Result, sym, refl, ap, ◌∙◌, subst, arith, true≢false, length-append}
+use Rattle.std.proofs.Common.{◌≡◌, ℕ, suc, ◌+◌, ◌<◌, ◌≤◌, Bool, true, false, ◌||◌, List, [], ◌∷◌, ◌++◌, length, get_or, take, drop, is_some, Some, Ok, Err, Result, sym, refl, ap, ◌∙◌, arith, true≢false, length-append}
 use Rattle.std.proofs.Math.Seq.{drop-cons}
 use Rattle.std.proofs.lemmas.List.Elements.{filter_map-append}
 use Rattle.std.proofs.lemmas.List.{take_more, take_all, take-take, take_at, take-append-drop, append-nil, append_assoc, map-append}
@@ -48,8 +48,14 @@ module _ {X Y : Type 0} (g : List X → List Y) (hom : (xs ys : List X) → g (x
 
   pub room : (ts ys : List Y) (n : ℕ) → ys ≡ ts ++ g (take i xs) → length ts + length (g xs) ≤ n → length ys + length (g (get_or xs i d ∷ [])) ≤ n
   room ts ys n e h =
-      omega (arith, ap length e, length-append ts (g (take i xs)), ap length whole, length-append (g (take i xs)) (g (get_or xs i d ∷ []) ++ g (drop (suc i) xs)),
-        length-append (g (get_or xs i d ∷ [])) (g (drop (suc i) xs)))
+      omega (
+        arith,
+        ap length e,
+        length-append ts (g (take i xs)),
+        ap length whole,
+        length-append (g (take i xs)) (g (get_or xs i d ∷ []) ++ g (drop (suc i) xs)),
+        length-append (g (get_or xs i d ∷ [])) (g (drop (suc i) xs)),
+      )
 
 -- one more is told
 pub told_more : {X : Type 0} (g : List X → List End) (hom : (xs ys : List X) → g (xs ++ ys) ≡ g xs ++ g ys) (xs : List X) (i : ℕ) (d : X) → i < length xs → (ss ts us : List Seat)

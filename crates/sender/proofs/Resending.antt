@@ -1,15 +1,15 @@
 -- A step through the resend list, from the task of its first delivery.
-use Rattle.std.proofs.Common.{◌≡◌, Bool, true, false, cond, eqb, List, [], ◌∷◌, ◌++◌, drop, length, is_some, not, Some, None, Ok, Err, Option, sym, refl, ap, ◌∙◌, subst}
+use Rattle.std.proofs.Common.{◌≡◌, Bool, true, false, cond, eqb, List, [], ◌∷◌, drop, length, is_some, not, None, Ok, Err, sym, refl, ap, ◌∙◌, subst}
 use Rattle.amqp.specs.declared.error.SendError.{SendError}
 use Rattle.sink.specs.Frames.{Model}
 use Rattle.unsettled.specs.Messages.{outside}
 use Rattle.link.specs.declared.resumption.Progress.TheVariants.{Worked}
 use Rattle.link.specs.Resending.{again, sent_again, again_rows, again_as, again_turn, again_frames}
-use Rattle.link.specs.Rows.{row, first, gated, unless}
+use Rattle.link.specs.Rows.{first, gated, unless}
 use Rattle.link.specs.Sending.{Carrier, goes_settled, next_tag, join_rows}
-use Rattle.link.specs.Turns.{Turn, stay, landed}
+use Rattle.link.specs.Turns.{stay, landed}
 use Rattle.link.specs.Views.{View, Entry}
-use Rattle.link.specs.Working.{task_rows, task_frames, task_payload, joining_rows, tasked}
+use Rattle.link.specs.Working.{task_rows, joining_rows, tasked}
 use Rattle.link.proofs.Rows.{gated_ok}
 use Rattle.sender.specs.Puts.{Puts}
 use Rattle.sender.specs.Resends.{kept, again_task, again_payload, sent_on, AgainDone}

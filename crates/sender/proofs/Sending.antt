@@ -1,16 +1,19 @@
 -- What may be sent, what a send carries, and the two halves of a send joined.
-use Rattle.std.proofs.Common.{◌≡◌, [], ◌∷◌, Some, None, Err, Option, Result, sym, refl, ap, ◌∙◌, subst}
+use Rattle.std.proofs.Common.{◌≡◌, ℕ, List, true, false, eqb, length, [], ◌∷◌, Some, None, Err, Option, Result, sym, refl, ap, ◌∙◌, subst}
 use Rattle.amqp.specs.declared.error.SendError.{SendError}
+use Rattle.amqp.specs.declared.header.Header.{Header}
 use Rattle.sink.specs.Frames.{Model, After}
 use Rattle.link.specs.declared.delivery.Sendable.{Sendable}
 use Rattle.link.specs.Calls.{Send, step}
 use Rattle.link.specs.Rows.{first, gated, unless, Accepted}
-use Rattle.link.specs.Sending.{Carrier, Sent, payload, share_for, own_rows, sink_row, send_refusal, answer_as, send_answer, sent_answer, sent, sent_as, cut, frames_needed, sent_frames}
+use Rattle.unsettled.specs.Messages.{outside}
+use Rattle.link.specs.Settings.{exceeds}
+use Rattle.link.specs.Sending.{Carrier, carrier, Sent, payload, share_for, size_for, goes_settled, narrow, ready, busy, entry_rows, own_rows, sink_row, send_refusal, answer_as, send_answer, sent_answer, sent, sent_as, cut, frames_needed, sent_frames}
 use Rattle.link.specs.Turns.{Turn, landed, stay}
 use Rattle.link.specs.Views.{View}
-use Rattle.link.proofs.Rows.{first_some, first_none, first_alone, after_same, accepted_not}
+use Rattle.link.proofs.Rows.{first_some, first_none, first_alone, after_same, accepted_not, gated_err}
 use Rattle.sender.specs.declared.sender_link.send.Plan.{Plan}
-use Rattle.sender.specs.Sends.{plan_of}
+use Rattle.sender.specs.Sends.{addable, planned, plan_of}
 
 -- ---- from the two halves of a send to the whole
 
@@ -54,3 +57,13 @@ whole_sink v c m p t e n h =
     let P : Plan → Type 0 = λ q. After (sink_row c.sink q.share (payload c m)) c.sink t (cut v q.transfer q.share (payload c m)) (frames_needed q.share (payload c m)) in
     let Q : Option SendError → Type 0 = λ o. After o c.sink t (sent_frames v c m) (frames_needed (share_for v c m) (payload c m)) in
     subst Q (by_sink v c m n) (subst P e h)
+
+-- a carrier whose sink no plan looks at
+abbrev pub blind_carrier : (Header → List ℕ) → List ℕ → Carrier
+blind_carrier bytes pool = carrier bytes pool (record { waiting = []; vacancy = 0; widest = 0; stopped = None })
+
+-- where no row before it refuses, what is refused of the entry is refused of the message
+pub by_entry : (v : View) (c : Carrier) (m : Sendable) (e : SendError) → ready v ≡ true → busy v ≡ false → outside m.place (length c.pool) ≡ false → exceeds v.settings.max_message_size m.place.len ≡ false
+    → eqb v.flow.link_credit 0 ≡ false → narrow v.settings.max_frame_size (size_for v c m) m.place.len ≡ false → goes_settled v m ≡ false → ◌≡◌ {A = Result (Unit {0}) SendError} (Err e) (addable v)
+    → Err e ≡ planned v c.bytes c.pool m
+by_entry v c m e r b o x k n g h = rw (r, b, o, x, k, n, g, gated_err (first (entry_rows v)) tt e h) refl

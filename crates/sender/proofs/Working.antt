@@ -1,17 +1,15 @@
 -- A step through the resume list, from the task of its first item.
-use Rattle.std.proofs.Common.{◌≡◌, ℕ, Bool, true, List, [], ◌∷◌, ◌++◌, drop, length, Some, None, Ok, Err, Option, Result, sym, refl, ap, ◌∙◌, subst}
+use Rattle.std.proofs.Common.{◌≡◌, ℕ, List, [], ◌∷◌, drop, Some, Ok, Err, Option, Result, sym, ap, ◌∙◌, subst}
 use Rattle.std.specs.List.{slice_get}
 use Rattle.amqp.specs.declared.error.SendError.{SendError}
 use Rattle.sink.specs.Frames.{Frame, Model}
-use Rattle.link.specs.declared.resumption.Progress.{Progress}
 use Rattle.link.specs.declared.resumption.Progress.TheVariants.{Worked}
-use Rattle.link.specs.declared.resumption.ResumingDelivery.{ResumingDelivery}
 use Rattle.link.specs.declared.resumption.Task.{Task}
 use Rattle.link.specs.Rows.{first, gated, unless}
 use Rattle.link.specs.Sending.{Carrier}
 use Rattle.link.specs.Turns.{Turn, stay, landed}
 use Rattle.link.specs.Views.{View}
-use Rattle.link.specs.Working.{task_rows, task_frames, task_payload, tasked}
+use Rattle.link.specs.Working.{task_rows, tasked}
 use Rattle.link.proofs.Rows.{gated_err, gated_ok}
 use Rattle.sender.specs.Puts.{Puts}
 use Rattle.sender.specs.Views.{resuming_with}

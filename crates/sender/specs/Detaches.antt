@@ -1,5 +1,5 @@
 -- A detach by its parts: what refuses it, and what goes back into the table.
-use Rattle.std.specs.Prelude.{◌≡◌, ℕ, Bool, true, false, cond, List, [], ◌∷◌, ◌++◌, length, take, None, Option, Result}
+use Rattle.std.specs.Prelude.{◌≡◌, Bool, true, false, cond, List, [], ◌∷◌, ◌++◌, length, take, None, Option, Result}
 use Rattle.std.specs.Option.{unwrap_or}
 use Rattle.amqp.specs.declared.error.ApplyRemoteDetachError.{ApplyRemoteDetachError}
 use Rattle.amqp.specs.declared.error.ApplyRemoteDetachError.TheVariants as fault

@@ -6,3 +6,4 @@ pub mod Works
 pub mod Resends
 pub mod Disposes
 pub mod Detaches
+pub mod Attaches

@@ -1,18 +1,15 @@
 -- What the calls that put a delivery's frames have in common: what refuses a task, and what it comes to.
-use Rattle.std.specs.Prelude.{◌≡◌, ℕ, List, ◌∷◌, length, Option, Result}
+use Rattle.std.specs.Prelude.{ℕ, List, ◌∷◌, Option, Result}
 use Rattle.amqp.specs.declared.error.SendError.{SendError}
 use Rattle.amqp.specs.declared.error.SendError.TheVariants as fault
 use Rattle.amqp.specs.declared.header.Header.{Header}
 use Rattle.amqp.specs.declared.header.Transfer.{Transfer}
 use Rattle.amqp.specs.Headers.{measured}
-use Rattle.sink.specs.Cuts.{Carries}
-use Rattle.sink.specs.Frames.{Model, After}
 use Rattle.link.specs.declared.resumption.Task.{Task}
-use Rattle.link.specs.Rows.{row, first, gated, unless, Accepted}
-use Rattle.link.specs.Sending.{Carrier, narrow, share_of}
-use Rattle.link.specs.Turns.{landed}
+use Rattle.link.specs.Rows.{row, first, gated}
+use Rattle.link.specs.Sending.{narrow, share_of}
 use Rattle.link.specs.Views.{View}
-use Rattle.link.specs.Working.{task_payload, task_frames, joining_rows, task_rows, tasked}
+use Rattle.link.specs.Working.{joining_rows}
 
 -- what each frame of a transfer has left, where that suffices
 abbrev pub shared : View → (Header → List ℕ) → Transfer → (len : ℕ) → Result ℕ SendError

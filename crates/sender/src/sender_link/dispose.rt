@@ -37,11 +37,7 @@ impl<'a> SenderLink<'a> {
     }
 
     // Tells the peer a delivery's state by one frame, which goes out for a tag that is not in the table too.
-    pub fn dispose<S: Sink>(
-        &mut self,
-        sink: &mut S,
-        disposal: &Disposal,
-    ) -> Result<(), SinkError>
+    pub fn dispose<S: Sink>(&mut self, sink: &mut S, disposal: &Disposal) -> Result<(), SinkError>
         ensures disposes { Disposes self.old (S.model sink.old) disposal.now result self.new (S.model sink.new) }
         ensures no_delivery_lost_or_ended_twice { SafeAfter self.old (Dispose (S.model sink.old) disposal.now) self.new }
     {

@@ -1,6 +1,6 @@
-use Rattle.std.proofs.Common.{Some, sym, ap, ◌∙◌, false, ◌≡◌}
+use Rattle.std.proofs.Common.{sym, ◌∙◌}
 use Rattle.link.specs.Rows.{first}
-use Rattle.link.specs.Sending.{carrier, share_of, table_full, tag_there}
+use Rattle.link.specs.Sending.{carrier, share_of}
 use Rattle.amqp.specs.Headers.{measured}
 use Rattle.link.proofs.Rows.{err_by, gated_err, gated_ok}
 use Rattle.sender.specs.Tasks.{own_rows}

@@ -1,6 +1,4 @@
-use Rattle.link.specs.Rows.{first}
 use Rattle.link.specs.Sending.{carrier}
-use Rattle.link.specs.Working.{task_rows}
 use Rattle.link.proofs.Rows.{err_by}
 use Rattle.sender.proofs.Working.{refused_too, finished}
 use Rattle.sender.proofs.sender_link.SenderLink.carry_first.Goals as goal

@@ -1,4 +1,4 @@
-use Rattle.std.proofs.Common.{drop, eqb, sym, ap, ◌∙◌, subst, rules}
+use Rattle.std.proofs.Common.{drop, sym, ◌∙◌, subst, rules}
 use Rattle.link.specs.Resending.{again}
 use Rattle.link.specs.Sending.{carrier, goes_settled}
 use Rattle.link.proofs.Rows.{err_by}
