@@ -3,7 +3,7 @@ use Rattle.std.specs.Prelude.{ℕ, ◌+◌, min, Bool, true, false, cond, List, 
 use Rattle.amqp.specs.declared.state.DeliveryState.TheVariants.{Received, Accepted, Rejected, Released, Modified}
 use Rattle.amqp.specs.Refusals.{send_number}
 use Rattle.link.specs.declared.delivery.Outcome.{Outcome}
-use Rattle.link.specs.declared.delivery.Outcome.TheVariants.{State, NoState}
+use Rattle.link.specs.declared.delivery.Outcome.TheVariants.{State, NoState, RemoteClosed, RemoteClosedWithError}
 use Rattle.link.specs.Texts.{outcome_text}
 use Rattle.shipping.specs.declared.report.ShipError.{ShipError}
 use Rattle.shipping.specs.declared.report.ShipError.TheVariants.{Refused, NoMemory, Link}
@@ -40,6 +40,8 @@ is_accepted (Some (State Accepted)) = true
 is_accepted (Some (State (Rejected e))) = false
 is_accepted (Some (State Released)) = false
 is_accepted (Some (State (Modified failed undeliverable))) = false
+is_accepted (Some RemoteClosed) = false
+is_accepted (Some (RemoteClosedWithError e)) = false
 
 abbrev pub is_pending : Option Outcome → Bool
 is_pending None = true
