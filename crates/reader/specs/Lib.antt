@@ -22,3 +22,8 @@ pub mod Backs
 pub mod Items
 pub mod Canons
 pub mod Wides
+pub mod Steady
+pub mod Steadies
+pub mod Followed
+pub mod Fault
+pub mod Faults

@@ -58,7 +58,7 @@ module _ (R : Reading) (L : Lawful R) where
       let a6 = flag_back R L x.batchable a5.2 in
       rw (c.1, a1.1, a2.1, a3.1, a4.1, a5.1, a6.1, end_of a6.2)
 
-  header : (src : List ℕ) (at : ℕ) (h : Header) → Fits h → Has src at (header_bytes R.form h) → header_at R src at ≡ Ok (h, at + length (header_bytes R.form h))
+  pub header : (src : List ℕ) (at : ℕ) (h : Header) → Fits h → Has src at (header_bytes R.form h) → header_at R src at ≡ Ok (h, at + length (header_bytes R.form h))
   unfolding header_at
   header src at (Transfer x) v h =
       let d = described_back R L src at 0x14 (transfer_fields R.form.terse x) (omega arith) h in

@@ -5,6 +5,7 @@ ghost use Rattle.reader.specs.Compacts.{compact_lawful, compact_written};
 ghost use Rattle.reader.specs.Inputs.{Reads};
 ghost use Rattle.reader.specs.Numbers.{from_at};
 ghost use Rattle.reader.specs.Widths.{width_of};
+ghost use Rattle.reader.specs.Steadies.{compact_steady};
 
 use crate::input::Input;
 use crate::parse::Parse;
@@ -32,6 +33,8 @@ impl Parse for Compact {
     ghost reading = { compact_reading };
 
     ghost lawful = { compact_lawful };
+
+    ghost steady = { compact_steady };
 
     ghost writes = { λ _ h. compact_written h };
 

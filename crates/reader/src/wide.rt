@@ -1,6 +1,7 @@
 // The wide form as it is read.
 ghost use Rattle.reader.specs.Wide.{wide_reading};
 ghost use Rattle.reader.specs.Wides.{wide_lawful, wide_written};
+ghost use Rattle.reader.specs.Steadies.{wide_steady};
 
 use crate::input::Input;
 use crate::parse::Parse;
@@ -13,6 +14,8 @@ impl Parse for Wide {
     ghost reading = { wide_reading };
 
     ghost lawful = { wide_lawful };
+
+    ghost steady = { wide_steady };
 
     ghost writes = { λ _ h. wide_written h };
 
