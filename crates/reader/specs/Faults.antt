@@ -1,18 +1,20 @@
 -- A refusal tells the first fault, in each form.
-use Rattle.std.specs.Prelude.{◌≡◌, ℕ, zero, suc, ◌+◌, ◌<◌, ◌≤◌, Bool, true, false, cond, List, [], ◌∷◌, ◌++◌, length, take, drop, Ok, Err, Result, ◌==◌, nat_eq, nat_lt, slice_index, refl}
+use Rattle.std.specs.Prelude.{◌≡◌, ℕ, zero, suc, ◌+◌, ◌-◌, ◌<◌, ◌≤◌, min, Bool, true, false, cond, List, [], ◌∷◌, ◌++◌, length, take, drop, Ok, Err, Result, ◌==◌, nat_eq, nat_lt, slice_index, refl}
 use Rattle.std.proofs.Common.{sym, ap, ◌∙◌, arith}
 use Rattle.std.specs.Str.{bytes_eq}
 use Rattle.std.proofs.lemmas.Slice.Eq.{bytes_eq-Decides}
-use Rattle.std.proofs.lemmas.Bool.{eqb-true, eq-eqb, ltb-true, ltb-false, false≢true}
+use Rattle.std.proofs.lemmas.Bool.{eqb-true, eq-eqb, ne_eqb, lt-ltb, ltb-true, ltb-false, false≢true}
 use Rattle.std.proofs.lemmas.List.{take-append-drop, length-take-le, length-append}
 use Rattle.std.proofs.Math.Seq.{take-length}
 use Rattle.std.proofs.lemmas.List.Sums.{common_prefix_len-le}
 use Rattle.amqp.specs.declared.header.Header.{Header}
 use Rattle.codec.specs.declared.error.ReadError.{ReadError}
 use Rattle.codec.specs.declared.error.ReadError.TheVariants.{NotEncoded}
+use Rattle.codec.specs.Amqp.{ulong}
+use Rattle.codec.specs.Form.{encoded}
 use Rattle.codec.specs.Headers.{header_bytes}
 use Rattle.reader.specs.Agree.{agree, past_zeros}
-use Rattle.reader.specs.Fault.{Bytes, FirstFault, Placed}
+use Rattle.reader.specs.Fault.{Bytes, FirstFault, Placed, OtherKind}
 use Rattle.reader.specs.Fits.{Fits}
 use Rattle.reader.specs.Followed.{header}
 use Rattle.reader.specs.Having.{has_self, has_split}
@@ -20,6 +22,7 @@ use Rattle.reader.specs.Headers.{header_at, refused, read_of}
 use Rattle.reader.specs.Laws.{Lawful, Written}
 use Rattle.reader.specs.Places.{Found, Has}
 use Rattle.reader.specs.Reading.{Reading}
+use Rattle.reader.specs.States.{described_at}
 use Rattle.reader.specs.Steadies.{SteadyReading}
 use Rattle.reader.specs.Steady.{Kept, same_byte, found, wrong, short, no_ok, same_ok}
 use Rattle.reader.specs.Whole.{header as header_back}
@@ -277,3 +280,10 @@ placed_by R L S E w src bytes =
       short = λ h v n l e. x.short h v n (rw (w h).same at l) (e ∙ ap (take n) (w h).same);
       spare = λ h v b more e. x.spare h v b more (e ∙ ap (λ s. s ++ b ∷ more) (w h).same) ∙ ap (λ s. Err (NotEncoded (length s))) (sym (w h).same);
     }
+
+pub other_kind : (R : Reading) → Lawful R → (src : List ℕ) → OtherKind R.form src (read_of R src)
+unfolding header_at described_at
+other_kind R L src code l m n (h0, h1, h2) =
+    let e = L.ulongs.back src 1 code l h2 in
+    let p : min 2 (1 + length (encoded R.form (ulong code)) - 1) ≡ min 2 (length (encoded R.form (ulong code))) = omega arith in
+    rw (lt-ltb 0 (length src) h0, h1, e, ne_eqb code 0x14 m, ne_eqb code 0x15 n) (rw p)

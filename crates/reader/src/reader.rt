@@ -5,7 +5,7 @@ ghost use Rattle.codec.specs.declared.error.ReadError.{ReadError as ReadErrorMod
 ghost use Rattle.codec.specs.Headers.{header_bytes};
 ghost use Rattle.reader.specs.Headers.{read_of};
 ghost use Rattle.reader.specs.Exact.{Exact};
-ghost use Rattle.reader.specs.Fault.{Bytes, Placed};
+ghost use Rattle.reader.specs.Fault.{Bytes, Placed, OtherKind};
 ghost use Rattle.reader.specs.Faults.{placed_by};
 ghost use Rattle.reader.specs.Whole.{exact_by};
 
@@ -39,6 +39,7 @@ impl<P: Parse> Reader for P {
         ensures value { result ≡ read_of P.reading bytes.now }
         ensures exact { Exact (header_bytes P.reading.form) bytes.now result }
         ensures placed { Placed (header_bytes P.reading.form) (read_of P.reading) bytes.now result }
+        ensures other_kind { OtherKind P.reading.form bytes.now result }
     {
         whole(self, bytes)
     }

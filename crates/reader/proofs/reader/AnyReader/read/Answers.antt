@@ -1,5 +1,5 @@
 use Rattle.std.proofs.Common.{arith}
-use Rattle.reader.specs.Faults.{placed}
+use Rattle.reader.specs.Faults.{placed, other_kind}
 use Rattle.reader.specs.Whole.{exact}
 use Rattle.reader.proofs.reader.AnyReader.read.Goals as goal
 
@@ -8,3 +8,6 @@ returns-clause-exact g c = rw c.whole.ensures (exact g.P.Parse.reading g.met.P.P
 
 pub returns-clause-placed : goal.returns-clause-placed
 returns-clause-placed g c = rw c.whole.ensures (placed g.P.Parse.reading g.met.P.Parse.lawful g.met.P.Parse.steady c.args.bytes.now (λ k. (let w = c.type_inv.bytes k in omega arith)))
+
+pub returns-clause-other_kind : goal.returns-clause-other_kind
+returns-clause-other_kind g c = rw c.whole.ensures (other_kind g.P.Parse.reading g.met.P.Parse.lawful c.args.bytes.now)
