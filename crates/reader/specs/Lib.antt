@@ -27,3 +27,6 @@ pub mod Steadies
 pub mod Followed
 pub mod Fault
 pub mod Faults
+pub mod Codes
+pub mod Picky
+pub mod Missing

@@ -6,6 +6,7 @@ ghost use Rattle.reader.specs.Inputs.{Reads};
 ghost use Rattle.reader.specs.Numbers.{from_at};
 ghost use Rattle.reader.specs.Widths.{width_of};
 ghost use Rattle.reader.specs.Steadies.{compact_steady};
+ghost use Rattle.reader.specs.Picky.{compact_picky};
 
 use crate::input::Input;
 use crate::parse::Parse;
@@ -35,6 +36,8 @@ impl Parse for Compact {
     ghost lawful = { compact_lawful };
 
     ghost steady = { compact_steady };
+
+    ghost picky = { compact_picky };
 
     ghost writes = { λ _ h. compact_written h };
 

@@ -7,6 +7,7 @@ ghost use Rattle.reader.specs.Inputs.{Reads, Spells, Opens};
 ghost use Rattle.reader.specs.Reading.{Reading};
 ghost use Rattle.reader.specs.Laws.{Lawful, Written};
 ghost use Rattle.reader.specs.Steadies.{SteadyReading};
+ghost use Rattle.reader.specs.Picky.{Picky};
 
 use crate::input::Input;
 use codec::encoder::Encoder;
@@ -47,6 +48,9 @@ pub(crate) trait Parse: Encoder {
 
     // What is read of bytes stays so whatever follows them, unless they end too soon.
     ghost steady: { SteadyReading reading };
+
+    // A byte that is no code is refused in place of one.
+    ghost picky: { Picky reading };
 
     // What the encoder of the form writes is what is read, and never long.
     ghost writes: { (e : Self) (h : HeaderModel) → Written reading.form (Self.Encoder.bytes e) h };

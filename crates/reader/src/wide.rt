@@ -2,6 +2,7 @@
 ghost use Rattle.reader.specs.Wide.{wide_reading};
 ghost use Rattle.reader.specs.Wides.{wide_lawful, wide_written};
 ghost use Rattle.reader.specs.Steadies.{wide_steady};
+ghost use Rattle.reader.specs.Picky.{wide_picky};
 
 use crate::input::Input;
 use crate::parse::Parse;
@@ -16,6 +17,8 @@ impl Parse for Wide {
     ghost lawful = { wide_lawful };
 
     ghost steady = { wide_steady };
+
+    ghost picky = { wide_picky };
 
     ghost writes = { λ _ h. wide_written h };
 

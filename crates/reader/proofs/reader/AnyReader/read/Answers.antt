@@ -1,5 +1,6 @@
 use Rattle.std.proofs.Common.{arith}
 use Rattle.reader.specs.Faults.{placed, other_kind}
+use Rattle.reader.specs.Missing.{missing_code}
 use Rattle.reader.specs.Whole.{exact}
 use Rattle.reader.proofs.reader.AnyReader.read.Goals as goal
 
@@ -11,3 +12,6 @@ returns-clause-placed g c = rw c.whole.ensures (placed g.P.Parse.reading g.met.P
 
 pub returns-clause-other_kind : goal.returns-clause-other_kind
 returns-clause-other_kind g c = rw c.whole.ensures (other_kind g.P.Parse.reading g.met.P.Parse.lawful c.args.bytes.now)
+
+pub returns-clause-missing_code : goal.returns-clause-missing_code
+returns-clause-missing_code g c = rw c.whole.ensures (missing_code g.P.Parse.reading g.met.P.Parse.lawful g.met.P.Parse.picky c.args.bytes.now)
