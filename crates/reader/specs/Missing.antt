@@ -117,19 +117,23 @@ module _ (R : Reading) (L : Lawful R) (P : Picky R) (src : List ℕ) (at : ℕ) 
   rest_of : (q p : ℕ) (v : Val) (vs : Vals) → Keeps R.form v vs → Has src q (take (length (encoded R.form v) + p) (concat (kept R.form (cons v vs)))) → Has src q (encoded R.form v) × Has src (q + length (encoded R.form v)) (take p (concat (kept R.form vs)))
   rest_of q p v vs e h = has_split (encoded R.form v) (take p (concat (kept R.form vs))) src q (rw (e, take-append-add (encoded R.form v) (concat (kept R.form vs)) p) at h)
 
+  -- the field v itself is cut
+  abbrev Here : Cursor → Val → Type 0
+  Here c v = (p : ℕ) × (c.at + p ≡ at) × CodeAt R.form v p × Has src c.at (take p (encoded R.form v)) × ((c.left == 0) ≡ false)
+
   -- past the field v
-  past : Cursor → Val → Cursor
+  abbrev past : Cursor → Val → Cursor
   past c v = record { at = c.at + length (encoded R.form v); left = c.left - 1 }
 
-  Rest : Cursor → Val → Vals → Type 0
+  -- the field v is there, and the fields vs after it are cut
+  abbrev Rest : Cursor → Val → Vals → Type 0
   Rest c v vs = Has src c.at (encoded R.form v) × ((c.left == 0) ≡ false) × ((c.left == 1) ≡ false) × Cut (past c v) vs
 
   -- a field of a list that is cut: it is cut itself, or the rest is
-  field : (c : Cursor) (v : Val) (vs : Vals) → Cut c (cons v vs) → ((p : ℕ) × (c.at + p ≡ at) × CodeAt R.form v p × Has src c.at (take p (encoded R.form v)) × ((c.left == 0) ≡ false)) ⊎ Rest c v vs
-  unfolding past Rest
+  field : (c : Cursor) (v : Val) (vs : Vals) → Cut c (cons v vs) → Here c v ⊎ Rest c v vs
   field c v vs k = go k.p k.code k.place k.has k.left
     where
-      go : (p : ℕ) → FieldCodeAt R.form (cons v vs) p → c.at + p ≡ at → Has src c.at (take p (concat (kept R.form (cons v vs)))) → c.left ≡ length (kept R.form (cons v vs)) → ((p : ℕ) × (c.at + p ≡ at) × CodeAt R.form v p × Has src c.at (take p (encoded R.form v)) × ((c.left == 0) ≡ false)) ⊎ Rest c v vs
+      go : (p : ℕ) → FieldCodeAt R.form (cons v vs) p → c.at + p ≡ at → Has src c.at (take p (concat (kept R.form (cons v vs)))) → c.left ≡ length (kept R.form (cons v vs)) → Here c v ⊎ Rest c v vs
       go p (here e f) q h l = let n = rw e at l in inl (p, q, f, front_of c.at p v vs e f h, ne_eqb c.left 0 (λ z. omega arith))
       go p (later {p = r} e f) q h l =
           let n = rw e at l in
@@ -138,10 +142,10 @@ module _ (R : Reading) (L : Lawful R) (P : Picky R) (src : List ℕ) (at : ℕ) 
           inr (s.0, ne_eqb c.left 0 (λ z. omega arith), ne_eqb c.left 1 (λ z. omega arith), record { p = r; place = omega arith; code = f; has = s.1; left = omega arith })
 
   must_cut : {A : Type 0} {T : Reader A} {E : A → Val} {V : A → Type 0} → Item R A T E V → ((x : A) → V x → Broken T (E x)) → (c : Cursor) (x : A) (vs : Vals) → V x → Cut c (cons (E x) vs) → Met (must_at T src c) (λ d. (x, d)) vs
-  unfolding must_at past Rest
+  unfolding must_at
   must_cut {A} {T} {E} {V} item broken c x vs v k = go (field c (E x) vs k)
     where
-      go : ((p : ℕ) × (c.at + p ≡ at) × CodeAt R.form (E x) p × Has src c.at (take p (encoded R.form (E x))) × ((c.left == 0) ≡ false)) ⊎ Rest c (E x) vs → Met (must_at T src c) (λ d. (x, d)) vs
+      go : Here c (E x) ⊎ Rest c (E x) vs → Met (must_at T src c) (λ d. (x, d)) vs
       go (inl (p, e, f, h, n)) = inl (rw ((broken x v).cut c.at p e f h).2)
       go (inr (h, n, m, r)) = inr (past c (E x), rw (item.back src c.at x v h), r)
 
@@ -157,31 +161,30 @@ module _ (R : Reading) (L : Lawful R) (P : Picky R) (src : List ℕ) (at : ℕ) 
 
   -- a null is passed where more follows
   passed : (terse : Bool) (c : Cursor) (vs : Vals) → Rest c null vs → absent_at terse src c ≡ Ok (Some (past c null))
-  unfolding past Rest
   passed true c vs ((h0, h1, h2), n, m, r) = rw (n, lt-ltb c.at (length src) h0, h1, m)
   passed false c vs ((h0, h1, h2), n, m, r) = rw (n, lt-ltb c.at (length src) h0, h1)
 
   null_cut : (c : Cursor) (vs : Vals) → Cut c (cons null vs) → Met (null_at R.form.terse src c) (λ d. d) vs
-  unfolding null_at past Rest
+  unfolding null_at
   null_cut c vs k = go (field c null vs k)
     where
-      go : ((p : ℕ) × (c.at + p ≡ at) × CodeAt R.form null p × Has src c.at (take p (encoded R.form null)) × ((c.left == 0) ≡ false)) ⊎ Rest c null vs → Met (null_at R.form.terse src c) (λ d. d) vs
+      go : Here c null ⊎ Rest c null vs → Met (null_at R.form.terse src c) (λ d. d) vs
       go (inl (p, e, f, h, n)) = let z = at_null p f in let q : c.at ≡ at = omega arith in inl (rw (present c q n R.form.terse, q))
       go (inr r) = inr (past c null, rw (passed R.form.terse c vs r), r.3)
 
   none_cut : {A : Type 0} (T : Reader A) → Refuses T → (c : Cursor) (vs : Vals) → Cut c (cons null vs) → Met (may_at R.form.terse T src c) (λ d. (None, d)) vs
-  unfolding may_at must_at past Rest
+  unfolding may_at must_at
   none_cut {A} T t c vs k = go (field c null vs k)
     where
-      go : ((p : ℕ) × (c.at + p ≡ at) × CodeAt R.form null p × Has src c.at (take p (encoded R.form null)) × ((c.left == 0) ≡ false)) ⊎ Rest c null vs → Met {A = Option A × Cursor} (may_at R.form.terse T src c) (λ d. (None, d)) vs
+      go : Here c null ⊎ Rest c null vs → Met {A = Option A × Cursor} (may_at R.form.terse T src c) (λ d. (None, d)) vs
       go (inl (p, e, f, h, n)) = let z = at_null p f in let q : c.at ≡ at = omega arith in inl (rw (present c q n R.form.terse, q, t src at there none))
       go (inr r) = inr (past c null, rw (passed R.form.terse c vs r), r.3)
 
   some_cut : {A : Type 0} {T : Reader A} {E : A → Val} {V : A → Type 0} → Item R A T E V → ((x : A) → V x → Broken T (E x)) → (c : Cursor) (x : A) (vs : Vals) → V x → Cut c (cons (E x) vs) → Met (may_at R.form.terse T src c) (λ d. (Some x, d)) vs
-  unfolding may_at must_at past Rest
+  unfolding may_at must_at
   some_cut {A} {T} {E} {V} item broken c x vs v k = go (field c (E x) vs k)
     where
-      go : ((p : ℕ) × (c.at + p ≡ at) × CodeAt R.form (E x) p × Has src c.at (take p (encoded R.form (E x))) × ((c.left == 0) ≡ false)) ⊎ Rest c (E x) vs → Met (may_at R.form.terse T src c) (λ d. (Some x, d)) vs
+      go : Here c (E x) ⊎ Rest c (E x) vs → Met (may_at R.form.terse T src c) (λ d. (Some x, d)) vs
       go (inl (p, e, f, h, n)) = let b = (broken x v).cut c.at p e f h in inl (rw (n, lt-ltb c.at (length src) b.0, ne_eqb (slice_index src c.at) 0x40 b.1, b.2))
       go (inr (h, n, m, r)) =
           let f = L.full (E x) (item.present x) src c.at h in
@@ -214,14 +217,13 @@ module _ (R : Reading) (L : Lawful R) (P : Picky R) (src : List ℕ) (at : ℕ) 
       go false e b k = must_cut L.bools (λ x _. bool_broken x) c b vs tt k
 
   -- from q on a list is cut: its own code is missing, or its front stands there and its fields are cut
-  ListCut : ℕ → Vals → Type 0
+  abbrev ListCut : ℕ → Vals → Type 0
   ListCut q vs =
       (q ≡ at)
       ⊎ (Has src q (R.form.lists (length (kept R.form vs)) (length (concat (kept R.form vs))))
       × Cut (record { at = q + length (R.form.lists (length (kept R.form vs)) (length (concat (kept R.form vs)))); left = length (kept R.form vs) }) vs)
 
   list_cut : (q : ℕ) (vs : Vals) (p : ℕ) → q + p ≡ at → CodeAt R.form (list vs) p → Has src q (take p (encoded R.form (list vs))) → ListCut q vs
-  unfolding ListCut
   list_cut q vs p e (own v) h = inl (omega arith)
   list_cut q vs p e (of_field {p = r} k) h =
       let ts : List (List ℕ) = kept R.form vs in
@@ -230,18 +232,17 @@ module _ (R : Reading) (L : Lawful R) (P : Picky R) (src : List ℕ) (at : ℕ) 
       inr (s.0, record { p = r; place = omega arith; code = k; has = s.1; left = refl })
 
   opened_cut : (q least : ℕ) (vs : Vals) → least ≤ length (kept R.form vs) → count vs < 256 → ListCut q vs → Met (R.list_at least (count vs) src q) (λ c. c) vs
-  unfolding ListCut
   opened_cut q least vs l m (inl e) = inl (rw e (P.lists least (count vs) src at there none))
   opened_cut q least vs l m (inr (h, k)) =
       inr (_, P.fronts src q least (count vs) (length (kept R.form vs)) (length (concat (kept R.form vs))) l (few R.form vs) (omega (arith, few R.form vs)) h (λ e. all_kept R.form e vs), k)
 
   -- from q on a described list is cut
-  DescribedCut : ℕ → ℕ → Vals → Type 0
+  abbrev DescribedCut : ℕ → ℕ → Vals → Type 0
   DescribedCut q code vs =
       (q < length src) × (slice_index src q ≢ 0x40) × ((described_at R src q ≡ Err at) ⊎ ((d : ℕ) × (described_at R src q ≡ Ok (code, d)) × ListCut d vs))
 
   described_cut : (q code : ℕ) (vs : Vals) (p : ℕ) → code < 256 → q + p ≡ at → CodeAt R.form (described (ulong code) (list vs)) p → Has src q (take p (encoded R.form (described (ulong code) (list vs)))) → DescribedCut q code vs
-  unfolding described_at DescribedCut
+  unfolding described_at
   described_cut q code vs p l e (own v) h =
       let s : q ≡ at = omega arith in
       let z = no_null q s in
@@ -284,7 +285,7 @@ module _ (R : Reading) (L : Lawful R) (P : Picky R) (src : List ℕ) (at : ℕ) 
   tag_broken t = simple (tag_at R) (tag_value t) tag_refuses (at_binary (tag_bytes t))
 
   error_broken : (k : AmqpError) → Broken (error_at R) (error_value k)
-  unfolding error_at DescribedCut
+  unfolding error_at
   error_broken k = record { cut = λ q p e f h. (let d = described_cut q 0x1d (error_fields k) p (omega arith) e f h in (d.0, d.1, go q d.2)) }
     where
       go : (q : ℕ) → (described_at R src q ≡ Err at) ⊎ ((d : ℕ) × (described_at R src q ≡ Ok (0x1d, d)) × ListCut d (error_fields k)) → error_at R src q ≡ Err at
@@ -297,24 +298,24 @@ module _ (R : Reading) (L : Lawful R) (P : Picky R) (src : List ℕ) (at : ℕ) 
           goes _ (null_cut c nil m) (λ c m. ended m)))))
 
   -- from q on T refuses a list of these fields that is cut
-  CutList : Reader DeliveryState → Vals → Type 0
+  abbrev CutList : {A : Type 0} → Reader A → Vals → Type 0
   CutList T vs = (q : ℕ) → ListCut q vs → T src q ≡ Err at
 
   received_cut : (p : Reached) → StateFits (Received p) → CutList (received_at R) (received_fields p)
-  unfolding received_at CutList
+  unfolding received_at
   received_cut s v q l =
       goes _ (opened_cut q 2 (received_fields s) (two_kept R L (uint s.section_number) (ulong s.section_offset) nil refl refl) (omega arith) l) (λ c m.
       goes _ (must_cut L.uints (λ x _. uint_broken x) c s.section_number (cons (ulong s.section_offset) nil) v.0 m) (λ c m.
       goes _ (must_cut L.ulongs (λ x _. ulong_broken x) c s.section_offset nil v.1 m) (λ c m. ended m)))
 
   rejected_cut : (k : Option AmqpError) → CutList (rejected_at R) (cons (optional error_value k) nil)
-  unfolding rejected_at CutList
+  unfolding rejected_at
   rejected_cut k q l =
       goes _ (opened_cut q 0 (cons (optional error_value k) nil) (omega arith) (omega arith) l) (λ c m.
       goes _ (may_cut (error R L) (λ x _. error_broken x) error_refuses c k nil (any k) m) (λ c m. ended m))
 
   modified_cut : (f u : Option Bool) → CutList (modified_at R) (modified_fields f u)
-  unfolding modified_at CutList
+  unfolding modified_at
   modified_cut f u q l =
       goes _ (opened_cut q 0 (modified_fields f u) (omega arith) (omega arith) l) (λ c m.
       goes _ (may_cut L.bools (λ x _. bool_broken x) P.bools c f (cons (optional bool u) (cons null nil)) (any f) m) (λ c m.
@@ -322,11 +323,11 @@ module _ (R : Reading) (L : Lawful R) (P : Picky R) (src : List ℕ) (at : ℕ) 
       goes _ (null_cut c nil m) (λ c m. ended m))))
 
   plain_cut : (x : DeliveryState) → CutList (plain_at R x) nil
-  unfolding plain_at CutList
+  unfolding plain_at
   plain_cut x q l = goes _ (opened_cut q 0 nil (omega arith) (omega arith) l) (λ c m. ended m)
 
   state_broken : (x : DeliveryState) → StateFits x → Broken (state_at R) (state_value x)
-  unfolding state_at DescribedCut CutList
+  unfolding state_at
   state_broken x v = go x v
     where
       by : (code : ℕ) (vs : Vals) (T : Reader DeliveryState) → code < 256 → CutList T vs → ((q d : ℕ) → described_at R src q ≡ Ok (code, d) → state_at R src q ≡ T src d) → Broken (state_at R) (described (ulong code) (list vs))
@@ -343,11 +344,8 @@ module _ (R : Reading) (L : Lawful R) (P : Picky R) (src : List ℕ) (at : ℕ) 
       go Released v = by 0x26 nil (plain_at R Released) (omega arith) (plain_cut Released) (λ q d e. rw e)
       go (Modified f u) v = by 0x27 (modified_fields f u) (modified_at R) (omega arith) (modified_cut f u) (λ q d e. rw e)
 
-  CutHeader : Reader Header → Vals → Type 0
-  CutHeader T vs = (q : ℕ) → ListCut q vs → T src q ≡ Err at
-
-  transfer_cut : (x : TransferOf) → TransferFits x → CutHeader (transfer_at R) (transfer_fields R.form.terse x)
-  unfolding transfer_at CutHeader
+  transfer_cut : (x : TransferOf) → TransferFits x → CutList (transfer_at R) (transfer_fields R.form.terse x)
+  unfolding transfer_at
   transfer_cut x v q l =
       let t : Bool = R.form.terse in
       let r9 : Vals = cons (flag t x.batchable) nil in
@@ -373,8 +371,8 @@ module _ (R : Reading) (L : Lawful R) (P : Picky R) (src : List ℕ) (at : ℕ) 
       goes _ (flag_cut c x.aborted r9 m) (λ c m.
       goes _ (flag_cut c x.batchable nil m) (λ c m. ended m))))))))))))
 
-  disposition_cut : (x : DispositionOf) → DispositionFits x → CutHeader (disposition_at R) (disposition_fields R.form.terse x)
-  unfolding disposition_at CutHeader
+  disposition_cut : (x : DispositionOf) → DispositionFits x → CutList (disposition_at R) (disposition_fields R.form.terse x)
+  unfolding disposition_at
   disposition_cut x v q l =
       let t : Bool = R.form.terse in
       let r4 : Vals = cons (flag t x.batchable) nil in
@@ -391,7 +389,7 @@ module _ (R : Reading) (L : Lawful R) (P : Picky R) (src : List ℕ) (at : ℕ) 
       goes _ (flag_cut c x.batchable nil m) (λ c m. ended m)))))))
 
   header_cut : (h : Header) → Fits h → (q p : ℕ) → CodeAt R.form (header_value R.form.terse h) p → q + p ≡ at → Has src q (take p (header_bytes R.form h)) → header_at R src q ≡ Err at
-  unfolding header_at DescribedCut CutHeader
+  unfolding header_at
   header_cut (Transfer x) v q p k e g = go (described_cut q 0x14 (transfer_fields R.form.terse x) p (omega arith) e k g).2
     where
       go : (described_at R src q ≡ Err at) ⊎ ((d : ℕ) × (described_at R src q ≡ Ok (0x14, d)) × ListCut d (transfer_fields R.form.terse x)) → header_at R src q ≡ Err at
