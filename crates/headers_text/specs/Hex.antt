@@ -43,7 +43,7 @@ pub record Stopped (text old new : List ℕ) : Type 0 where
   pub begun : Begun text old new
   pub fault : Undigital text (length begun.bytes)
 
--- the text's bytes were added; or the text is odd, and nothing was; or those before a byte that is no digit were, or as many as memory had room for
+-- the text's bytes were added; or the text is odd, and nothing was; or those before a byte that is no digit were, or those of some first pairs, when memory ran out
 abbrev pub Decoded : Result (Unit {0}) HexFault → List ℕ → List ℕ → List ℕ → Type 0
 Decoded (Ok _) text old new = Added text old new
 Decoded (Err Odd) text old new = new ≡ old
