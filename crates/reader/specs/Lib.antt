@@ -30,3 +30,4 @@ pub mod Faults
 pub mod Codes
 pub mod Picky
 pub mod Missing
+pub mod Sizes

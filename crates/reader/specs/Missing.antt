@@ -54,7 +54,7 @@ keep_few true t [] = omega arith
 keep_few true t (u ∷ us) = omega arith
 keep_few false t ts = omega arith
 
-few : (F : Form) (vs : Vals) → length (kept F vs) ≤ count vs
+pub few : (F : Form) (vs : Vals) → length (kept F vs) ≤ count vs
 few F nil = omega arith
 few F (cons v vs) = omega (arith, few F vs, keep_few (left_out F.terse v) (encoded F v) (kept F vs))
 
@@ -62,7 +62,7 @@ keep_all : (b : Bool) (t : List ℕ) (ts : List (List ℕ)) → b ≡ false → 
 keep_all true t ts e = absurd (false≢true (sym e))
 keep_all false t ts e = refl
 
-all_kept : (F : Form) → F.terse ≡ false → (vs : Vals) → length (kept F vs) ≡ count vs
+pub all_kept : (F : Form) → F.terse ≡ false → (vs : Vals) → length (kept F vs) ≡ count vs
 all_kept F e nil = refl
 all_kept F e (cons v vs) = keep_all (left_out F.terse v) (encoded F v) (kept F vs) (ap (λ t. left_out t v) e) ∙ ap suc (all_kept F e vs)
 

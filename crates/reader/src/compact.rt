@@ -7,6 +7,7 @@ ghost use Rattle.reader.specs.Numbers.{from_at};
 ghost use Rattle.reader.specs.Widths.{width_of};
 ghost use Rattle.reader.specs.Steadies.{compact_steady};
 ghost use Rattle.reader.specs.Picky.{compact_picky};
+ghost use Rattle.reader.specs.Sizes.{compact_sizes};
 
 use crate::input::Input;
 use crate::parse::Parse;
@@ -38,6 +39,8 @@ impl Parse for Compact {
     ghost steady = { compact_steady };
 
     ghost picky = { compact_picky };
+
+    ghost sizes = { compact_sizes };
 
     ghost writes = { λ _ h. compact_written h };
 

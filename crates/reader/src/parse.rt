@@ -8,6 +8,7 @@ ghost use Rattle.reader.specs.Reading.{Reading};
 ghost use Rattle.reader.specs.Laws.{Lawful, Written};
 ghost use Rattle.reader.specs.Steadies.{SteadyReading};
 ghost use Rattle.reader.specs.Picky.{Picky};
+ghost use Rattle.reader.specs.Sizes.{SizesDiffer};
 
 use crate::input::Input;
 use codec::encoder::Encoder;
@@ -51,6 +52,9 @@ pub(crate) trait Parse: Encoder {
 
     // A byte that is no code is refused in place of one.
     ghost picky: { Picky reading };
+
+    // Two sizes of a list differ nowhere but in the size.
+    ghost sizes: { SizesDiffer reading.form };
 
     // What the encoder of the form writes is what is read, and never long.
     ghost writes: { (e : Self) (h : HeaderModel) → Written reading.form (Self.Encoder.bytes e) h };

@@ -8,6 +8,7 @@ ghost use Rattle.reader.specs.Exact.{Exact};
 ghost use Rattle.reader.specs.Fault.{Bytes, Placed, OtherKind};
 ghost use Rattle.reader.specs.Faults.{placed_by};
 ghost use Rattle.reader.specs.Codes.{MissingCode};
+ghost use Rattle.reader.specs.Sizes.{WrongSize};
 ghost use Rattle.reader.specs.Whole.{exact_by};
 
 use crate::header::whole;
@@ -42,6 +43,7 @@ impl<P: Parse> Reader for P {
         ensures placed { Placed (header_bytes P.reading.form) (read_of P.reading) bytes.now result }
         ensures other_kind { OtherKind P.reading.form bytes.now result }
         ensures missing_code { MissingCode P.reading.form bytes.now result }
+        ensures wrong_size { WrongSize P.reading.form bytes.now result }
     {
         whole(self, bytes)
     }

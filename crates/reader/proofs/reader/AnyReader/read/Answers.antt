@@ -1,6 +1,7 @@
 use Rattle.std.proofs.Common.{arith}
 use Rattle.reader.specs.Faults.{placed, other_kind}
 use Rattle.reader.specs.Missing.{missing_code}
+use Rattle.reader.specs.Sizes.{wrong_size}
 use Rattle.reader.specs.Whole.{exact}
 use Rattle.reader.proofs.reader.AnyReader.read.Goals as goal
 
@@ -15,3 +16,8 @@ returns-clause-other_kind g c = rw c.whole.ensures (other_kind g.P.Parse.reading
 
 pub returns-clause-missing_code : goal.returns-clause-missing_code
 returns-clause-missing_code g c = rw c.whole.ensures (missing_code g.P.Parse.reading g.met.P.Parse.lawful g.met.P.Parse.picky c.args.bytes.now)
+
+pub returns-clause-wrong_size : goal.returns-clause-wrong_size
+returns-clause-wrong_size g c =
+    rw c.whole.ensures
+    (wrong_size g.P.Parse.reading g.met.P.Parse.lawful g.met.P.Parse.picky g.met.P.Parse.sizes (g.P.Encoder.bytes c.args.self.now) (λ h. g.met.P.Parse.writes c.args.self.now h) c.args.bytes.now)
