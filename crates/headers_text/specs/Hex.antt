@@ -1,5 +1,5 @@
 -- Bytes as pairs of lower-case hexadecimal digits.
-use Rattle.std.specs.Prelude.{◌≡◌, ℕ, ◌/◌, ◌%◌, ◌<◌, ◌≤◌, ◌⊎◌, false, List, [], ◌∷◌, ◌++◌, length, Ok, Err, Result, get_or}
+use Rattle.std.specs.Prelude.{◌≡◌, ℕ, ◌+◌, ◌*◌, ◌/◌, ◌%◌, ◌<◌, ◌≤◌, ◌⊎◌, false, List, [], ◌∷◌, ◌++◌, length, take, Ok, Err, Result, get_or}
 use Rattle.std.specs.Fmt.{digit_glyph}
 use Rattle.headers_text.specs.declared.hex.HexFault.{HexFault}
 use Rattle.headers_text.specs.declared.hex.HexFault.TheVariants.{Odd, NoDigit, Memory}
@@ -27,20 +27,25 @@ pub record Added (text old new : List ℕ) : Type 0 where
   pub written : text ≡ pairs bytes
   pub after : new ≡ old ++ bytes
 
--- some byte of the text is no digit
-pub record Undigital (text : List ℕ) : Type 0 where
-  pub place : ℕ
-  pub within : place < length text
-  pub fault : Digit (get_or text place 0) → ⊥
+-- the bytes of the text's first pairs were added
+pub record Begun (text old new : List ℕ) : Type 0 where
+  pub bytes : List ℕ
+  pub written : take (length (pairs bytes)) text ≡ pairs bytes
+  pub after : new ≡ old ++ bytes
 
--- what stood there stands there still, and bytes may follow it
-pub record Kept (old new : List ℕ) : Type 0 where
-  pub more : List ℕ
-  pub after : new ≡ old ++ more
+-- the pair that n others come before has a byte that is no digit
+pub record Undigital (text : List ℕ) (n : ℕ) : Type 0 where
+  pub within : 2 * n + 1 < length text
+  pub fault : (Digit (get_or text (2 * n) 0) → ⊥) ⊎ (Digit (get_or text (2 * n + 1) 0) → ⊥)
 
--- the text's bytes were added; or the text is odd, and nothing was; or a byte of it is no digit, or memory ran out
+-- the bytes of all pairs before the first such one were added
+pub record Stopped (text old new : List ℕ) : Type 0 where
+  pub begun : Begun text old new
+  pub fault : Undigital text (length begun.bytes)
+
+-- the text's bytes were added; or the text is odd, and nothing was; or those before a byte that is no digit were, or those of some first pairs, when memory ran out
 abbrev pub Decoded : Result (Unit {0}) HexFault → List ℕ → List ℕ → List ℕ → Type 0
 Decoded (Ok _) text old new = Added text old new
 Decoded (Err Odd) text old new = new ≡ old
-Decoded (Err NoDigit) text old new = Undigital text × Kept old new
-Decoded (Err Memory) text old new = Kept old new
+Decoded (Err NoDigit) text old new = Stopped text old new
+Decoded (Err Memory) text old new = Begun text old new

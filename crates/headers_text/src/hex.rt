@@ -1,5 +1,5 @@
 // Bytes as pairs of lower-case hexadecimal digits.
-ghost use Rattle.std.specs.Prelude.{◌≡◌, ℕ, ◌+◌, ◌-◌, ◌*◌, ◌%◌, ◌<◌, ◌≤◌, ◌↔◌, ◌++◌, length, ◌⊎◌, MatchOption, IsErrOf};
+ghost use Rattle.std.specs.Prelude.{◌≡◌, ℕ, ◌+◌, ◌-◌, ◌*◌, ◌/◌, ◌%◌, ◌<◌, ◌≤◌, ◌↔◌, ◌++◌, length, ◌⊎◌, MatchOption, IsErrOf, vec_len, vec_capacity};
 ghost use Rattle.headers_text.specs.Hex.{glyph, pairs, Digit, Pair, Decoded};
 ghost use Rattle.headers_text.specs.declared.hex.HexFault.TheVariants.{Odd, Memory};
 
@@ -41,6 +41,7 @@ impl<T: Drop> From<AllocFailed<T>> for HexFault {
 pub fn decode(text: &[u8], into: &mut Vec<u8>) -> Result<(), HexFault>
     ensures added { Decoded result text.now into.old.items into.new.items }
     ensures odd { IsErrOf result Odd ↔ (length text.now % 2 ≡ 1) }
+    ensures memory { IsErrOf result Memory → vec_capacity into.old < vec_len into.old + length text.now / 2 }
 {
     let (digits, odd) = text.as_chunks::<2>();
     if !odd.is_empty() {

@@ -56,7 +56,7 @@ module _ (R : Reading) (L : Lawful R) where
           let s = L.binaries src at 32 (tag_bytes x) n n h in
           then_step _ s.1 (rw (has_take (tag_bytes x) src s.0 s.2, tag_is x v, s.3))
 
-  name : Item R AmqpError (name_at R) (λ k. symbol (condition_name k)) Any
+  pub name : Item R AmqpError (name_at R) (λ k. symbol (condition_name k)) Any
   name =
       record {
         present = λ x. refl;
@@ -84,7 +84,7 @@ module _ (R : Reading) (L : Lawful R) where
   pub two_kept : (v w : Val) (vs : Vals) → absent v ≡ false → absent w ≡ false → 2 ≤ length (kept R.form (cons v (cons w vs)))
   two_kept v w vs e f = rw (kept_first R v (cons w vs) e, kept_first R w vs f) (omega arith)
 
-  error : Item R AmqpError (error_at R) error_value Any
+  pub error : Item R AmqpError (error_at R) error_value Any
   unfolding error_at
   error = record { present = λ x. refl; back = back }
     where

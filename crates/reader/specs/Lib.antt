@@ -21,3 +21,12 @@ pub mod Backs
 pub mod Items
 pub mod Canons
 pub mod Wides
+pub mod Steady
+pub mod Steadies
+pub mod Followed
+pub mod Fault
+pub mod Faults
+pub mod Codes
+pub mod Picky
+pub mod Missing
+pub mod Sizes

@@ -14,26 +14,26 @@ use Rattle.codec.specs.Form.{encoded}
 use Rattle.codec.specs.Headers.{header_bytes}
 use Rattle.codec.specs.Values.{transfer_fields, disposition_fields}
 use Rattle.reader.specs.Agree.{agree, only, past_zeros}
-use Rattle.reader.specs.Places.{Found, Has, then}
+use Rattle.reader.specs.Places.{Cursor, Found, Has, then}
 use Rattle.reader.specs.Reading.{Reading}
 use Rattle.reader.specs.Headers.{transfer_at, disposition_at, header_at, refused, read_of}
 use Rattle.reader.specs.Fits.{Fits, TransferFits, DispositionFits}
-use Rattle.reader.specs.Laws.{Lawful, Written}
+use Rattle.reader.specs.Laws.{Left, Lawful, Written}
 use Rattle.reader.specs.Exact.{Exact}
 use Rattle.reader.specs.Having.{has_self}
 use Rattle.reader.specs.Backs.{must_back, may_back, null_back, flag_back, end_of}
 use Rattle.reader.specs.Items.{any, tag, state, described_back, opened, one_kept, two_kept}
 
-abbrev rest : Vals → Vals
+abbrev pub rest : Vals → Vals
 rest nil = nil
 rest (cons v vs) = vs
 
 module _ (R : Reading) (L : Lawful R) where
-  transfer : (src : List ℕ) (p end : ℕ) (x : TransferOf) → TransferFits x → p + length (encoded R.form (list (transfer_fields R.form.terse x))) ≡ end → Has src p (encoded R.form (list (transfer_fields R.form.terse x))) → transfer_at R src p ≡ Ok (Transfer x, end)
+  -- from its fields on, wherever they begin
+  pub transfer_from : (src : List ℕ) (p end : ℕ) (x : TransferOf) → TransferFits x → (c : Cursor) → R.list_at 1 11 src p ≡ Ok c → Left R src end c (transfer_fields R.form.terse x) → transfer_at R src p ≡ Ok (Transfer x, end)
   unfolding transfer_at
-  transfer src p end x v e h =
-      let c = opened R L src p 1 (transfer_fields R.form.terse x) end e (one_kept R L (uint x.handle) (rest (transfer_fields R.form.terse x)) refl) (omega arith) h in
-      let a1 = must_back R L.uints x.handle v.handle c.2 in
+  transfer_from src p end x v c o l =
+      let a1 = must_back R L.uints x.handle v.handle l in
       let a2 = may_back R L L.uints x.delivery_id v.id a1.2 in
       let a3 = may_back R L (tag R L) x.delivery_tag v.tag a2.2 in
       let a4 = may_back R L L.uints x.message_format v.format a3.2 in
@@ -44,21 +44,30 @@ module _ (R : Reading) (L : Lawful R) where
       let a9 = flag_back R L x.resume a8.2 in
       let a10 = flag_back R L x.aborted a9.2 in
       let a11 = flag_back R L x.batchable a10.2 in
-      rw (c.1, a1.1, a2.1, a3.1, a4.1, a5.1, a6.1, a7.1, a8.1, a9.1, a10.1, a11.1, end_of a11.2)
+      rw (o, a1.1, a2.1, a3.1, a4.1, a5.1, a6.1, a7.1, a8.1, a9.1, a10.1, a11.1, end_of a11.2)
 
-  disposition : (src : List ℕ) (p end : ℕ) (x : DispositionOf) → DispositionFits x → p + length (encoded R.form (list (disposition_fields R.form.terse x))) ≡ end → Has src p (encoded R.form (list (disposition_fields R.form.terse x))) → disposition_at R src p ≡ Ok (Disposition x, end)
+  transfer : (src : List ℕ) (p end : ℕ) (x : TransferOf) → TransferFits x → p + length (encoded R.form (list (transfer_fields R.form.terse x))) ≡ end → Has src p (encoded R.form (list (transfer_fields R.form.terse x))) → transfer_at R src p ≡ Ok (Transfer x, end)
+  transfer src p end x v e h =
+      let c = opened R L src p 1 (transfer_fields R.form.terse x) end e (one_kept R L (uint x.handle) (rest (transfer_fields R.form.terse x)) refl) (omega arith) h in
+      transfer_from src p end x v c.0 c.1 c.2
+
+  pub disposition_from : (src : List ℕ) (p end : ℕ) (x : DispositionOf) → DispositionFits x → (c : Cursor) → R.list_at 2 6 src p ≡ Ok c → Left R src end c (disposition_fields R.form.terse x) → disposition_at R src p ≡ Ok (Disposition x, end)
   unfolding disposition_at
-  disposition src p end x v e h =
-      let c = opened R L src p 2 (disposition_fields R.form.terse x) end e (two_kept R L (bool false) (uint x.first) (rest (rest (disposition_fields R.form.terse x))) refl refl) (omega arith) h in
-      let a1 = must_back R L.bools false tt c.2 in
+  disposition_from src p end x v c o l =
+      let a1 = must_back R L.bools false tt l in
       let a2 = must_back R L.uints x.first v.first a1.2 in
       let a3 = null_back R L a2.2 in
       let a4 = flag_back R L x.settled a3.2 in
       let a5 = may_back R L (state R L) x.state v.state a4.2 in
       let a6 = flag_back R L x.batchable a5.2 in
-      rw (c.1, a1.1, a2.1, a3.1, a4.1, a5.1, a6.1, end_of a6.2)
+      rw (o, a1.1, a2.1, a3.1, a4.1, a5.1, a6.1, end_of a6.2)
 
-  header : (src : List ℕ) (at : ℕ) (h : Header) → Fits h → Has src at (header_bytes R.form h) → header_at R src at ≡ Ok (h, at + length (header_bytes R.form h))
+  disposition : (src : List ℕ) (p end : ℕ) (x : DispositionOf) → DispositionFits x → p + length (encoded R.form (list (disposition_fields R.form.terse x))) ≡ end → Has src p (encoded R.form (list (disposition_fields R.form.terse x))) → disposition_at R src p ≡ Ok (Disposition x, end)
+  disposition src p end x v e h =
+      let c = opened R L src p 2 (disposition_fields R.form.terse x) end e (two_kept R L (bool false) (uint x.first) (rest (rest (disposition_fields R.form.terse x))) refl refl) (omega arith) h in
+      disposition_from src p end x v c.0 c.1 c.2
+
+  pub header : (src : List ℕ) (at : ℕ) (h : Header) → Fits h → Has src at (header_bytes R.form h) → header_at R src at ≡ Ok (h, at + length (header_bytes R.form h))
   unfolding header_at
   header src at (Transfer x) v h =
       let d = described_back R L src at 0x14 (transfer_fields R.form.terse x) (omega arith) h in

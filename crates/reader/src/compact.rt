@@ -5,6 +5,9 @@ ghost use Rattle.reader.specs.Compacts.{compact_lawful, compact_written};
 ghost use Rattle.reader.specs.Inputs.{Reads};
 ghost use Rattle.reader.specs.Numbers.{from_at};
 ghost use Rattle.reader.specs.Widths.{width_of};
+ghost use Rattle.reader.specs.Steadies.{compact_steady};
+ghost use Rattle.reader.specs.Picky.{compact_picky};
+ghost use Rattle.reader.specs.Sizes.{compact_sizes};
 
 use crate::input::Input;
 use crate::parse::Parse;
@@ -32,6 +35,12 @@ impl Parse for Compact {
     ghost reading = { compact_reading };
 
     ghost lawful = { compact_lawful };
+
+    ghost steady = { compact_steady };
+
+    ghost picky = { compact_picky };
+
+    ghost sizes = { compact_sizes };
 
     ghost writes = { λ _ h. compact_written h };
 

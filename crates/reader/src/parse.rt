@@ -6,6 +6,9 @@ ghost use Rattle.reader.specs.Ranges.{IsFresh};
 ghost use Rattle.reader.specs.Inputs.{Reads, Spells, Opens};
 ghost use Rattle.reader.specs.Reading.{Reading};
 ghost use Rattle.reader.specs.Laws.{Lawful, Written};
+ghost use Rattle.reader.specs.Steadies.{SteadyReading};
+ghost use Rattle.reader.specs.Picky.{Picky};
+ghost use Rattle.reader.specs.Sizes.{SizesDiffer};
 
 use crate::input::Input;
 use codec::encoder::Encoder;
@@ -43,6 +46,15 @@ pub(crate) trait Parse: Encoder {
         ensures { Opens (reading.list_at (range_inclusive_start fields) (range_inclusive_end fields)) input.old input.new result };
 
     ghost lawful: { Lawful reading };
+
+    // What is read of bytes stays so whatever follows them, unless they end too soon.
+    ghost steady: { SteadyReading reading };
+
+    // A byte that is no code is refused in place of one.
+    ghost picky: { Picky reading };
+
+    // Two sizes of a list differ nowhere but in the size.
+    ghost sizes: { SizesDiffer reading.form };
 
     // What the encoder of the form writes is what is read, and never long.
     ghost writes: { (e : Self) (h : HeaderModel) → Written reading.form (Self.Encoder.bytes e) h };

@@ -1,6 +1,9 @@
 // The wide form as it is read.
 ghost use Rattle.reader.specs.Wide.{wide_reading};
 ghost use Rattle.reader.specs.Wides.{wide_lawful, wide_written};
+ghost use Rattle.reader.specs.Steadies.{wide_steady};
+ghost use Rattle.reader.specs.Picky.{wide_picky};
+ghost use Rattle.reader.specs.Sizes.{wide_sizes};
 
 use crate::input::Input;
 use crate::parse::Parse;
@@ -13,6 +16,12 @@ impl Parse for Wide {
     ghost reading = { wide_reading };
 
     ghost lawful = { wide_lawful };
+
+    ghost steady = { wide_steady };
+
+    ghost picky = { wide_picky };
+
+    ghost sizes = { wide_sizes };
 
     ghost writes = { λ _ h. wide_written h };
 

@@ -42,7 +42,7 @@ impl Ticket {
         ensures { result ≡ self.number }
     {
         self.spent = true;
-        self.number
+        self.number()
     }
 }
 
