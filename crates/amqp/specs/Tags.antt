@@ -1,5 +1,6 @@
 -- Tags: their bytes, and when two are one.
-use Rattle.std.specs.Prelude.{◌≡◌, ℕ, ◌-◌, ◌/◌, ◌%◌, ◌≤◌, min, List, [], ◌∷◌, ◌++◌, length, take, drop, replicate}
+use Rattle.std.specs.Prelude.{◌≡◌, ℕ, ◌/◌, ◌%◌, min, List, [], ◌∷◌, ◌++◌, take, replicate, refl}
+use Rattle.std.proofs.Common.{lit≤}
 use Rattle.amqp.specs.declared.tag.DeliveryTag.{DeliveryTag}
 
 -- at most 32 bytes
@@ -12,14 +13,8 @@ be4 x = x / 16777216 % 256 ∷ x / 65536 % 256 ∷ x / 256 % 256 ∷ x % 256 ∷
 
 -- the tag whose bytes are a count's four
 abbrev pub tag_of : ℕ → DeliveryTag
-tag_of n = record { len = 4; bytes = be4 n ++ replicate 28 0 }
-
--- at most 32 bytes, and zeros past them
-pub record Canonical (t : DeliveryTag) : Type 0 where
-  pub short : t.len ≤ 32
-  pub whole : length t.bytes ≡ 32
-  pub clear : drop t.len t.bytes ≡ replicate (32 - t.len) 0
+tag_of n = record { len = 4; bytes = be4 n ++ replicate 28 0; within = (lit≤ tt, refl); clear = refl }
 
 pub record SameBytesSameTag : Type 0 where
-  pub one : (x y : DeliveryTag) → Canonical x → Canonical y → tag_bytes x ≡ tag_bytes y → x ≡ y
-  pub of_count : (n : ℕ) → (tag_bytes (tag_of n) ≡ be4 n) × Canonical (tag_of n)
+  pub one : (x y : DeliveryTag) → tag_bytes x ≡ tag_bytes y → x ≡ y
+  pub of_count : (n : ℕ) → tag_bytes (tag_of n) ≡ be4 n

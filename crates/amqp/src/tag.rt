@@ -1,19 +1,32 @@
 // A delivery tag: 0 to 32 bytes (Part 2, 2.8.7).
-ghost use Rattle.std.specs.Prelude.{◌≡◌, ◌+◌, ◌≤◌, length, MatchOption};
-ghost use Rattle.amqp.specs.Tags.{tag_bytes, tag_of, Canonical, SameBytesSameTag};
+ghost use Rattle.std.specs.Prelude.{◌≡◌, ◌-◌, ◌+◌, ◌≤◌, length, drop, replicate};
 
-// Zeros stand past its bytes, so that tags of the same bytes are equal. It is copied by value and takes no heap, as a link
+// Zeros stand past its bytes, so that tags of the same bytes are equal, whoever made them. It is copied by value and takes no heap, as a link
 // does, and a vector of fixed capacity is not `Copy`: so the length stands beside the bytes.
-#[derive(Clone, Copy, PartialEq, Eq, Default)]
+#[derive(Clone, Copy, PartialEq, Eq)]
 pub struct DeliveryTag {
     len: u8,
     bytes: [u8; 32],
+    pub ghost within: { (len ≤ 32) × (length bytes ≡ 32) },
+    pub ghost clear: { drop len bytes ≡ replicate (32 - len) 0 },
+}
+
+impl Default for DeliveryTag {
+    fn default() -> DeliveryTag {
+        DeliveryTag {
+            len: 0,
+            bytes: [0; 32],
+        }
+    }
 }
 
 impl DeliveryTag {
+    ghost use Rattle.std.specs.Prelude.{MatchOption};
+    ghost use Rattle.amqp.specs.Tags.{tag_bytes, tag_of, SameBytesSameTag};
+
     // The tag of these bytes, or none where there are more than 32. An error of `TryFrom` could say no more.
     pub fn from_slice(s: &[u8]) -> Option<DeliveryTag>
-        ensures { MatchOption result (32 + 1 ≤ length s.now) (λ t. (tag_bytes t ≡ s.now) × Canonical t) }
+        ensures { MatchOption result (32 + 1 ≤ length s.now) (λ t. tag_bytes t ≡ s.now) }
     {
         if s.len() > 32 {
             return None;
@@ -46,9 +59,9 @@ impl DeliveryTag {
     {
         &self.bytes[..self.len()]
     }
-}
 
-// Two tags with the same bytes are one tag, and a count's tag has its four bytes.
-pub fn same_bytes_same_tag()
-    ensures { SameBytesSameTag }
-{}
+    // Two tags with the same bytes are one tag, and a count's tag has its four bytes.
+    pub fn same_bytes_same_tag()
+        ensures { SameBytesSameTag }
+    {}
+}

@@ -20,5 +20,4 @@ pub mod Digits
 pub mod Whole
 pub mod Backs
 pub mod Items
-pub mod Canons
 pub mod Wides
