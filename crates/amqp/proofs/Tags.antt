@@ -4,7 +4,7 @@ use Rattle.std.proofs.Props.{props}
 use Rattle.std.proofs.lemmas.List.{take-append-drop, drop_at, length-append, length-replicate, replicate-append-replicate, length-take-le}
 use mathlib.Core.HLevel.{is_prop→PathP}
 use Rattle.amqp.specs.declared.tag.DeliveryTag.{DeliveryTag}
-use Rattle.amqp.specs.Tags.{tag_bytes, SameBytesSameTag}
+use Rattle.amqp.specs.Tags.{tag_bytes, tag_of, SameBytesSameTag}
 
 abbrev Within : ℕ → List ℕ → Type 0
 Within n bs = (n ≤ 32) × (length bs ≡ 32)
@@ -52,4 +52,5 @@ over_zeros s p h e =
     )
 
 pub stands : SameBytesSameTag
+unfolding tag_of
 stands = record { one = same_tags; of_count = λ n. refl }

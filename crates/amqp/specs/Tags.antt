@@ -12,7 +12,7 @@ abbrev pub be4 : ℕ → List ℕ
 be4 x = x / 16777216 % 256 ∷ x / 65536 % 256 ∷ x / 256 % 256 ∷ x % 256 ∷ []
 
 -- the tag whose bytes are a count's four
-abbrev pub tag_of : ℕ → DeliveryTag
+unfoldable pub tag_of : ℕ → DeliveryTag
 tag_of n = record { len = 4; bytes = be4 n ++ replicate 28 0; within = (lit≤ tt, refl); clear = refl }
 
 pub record SameBytesSameTag : Type 0 where

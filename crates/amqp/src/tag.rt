@@ -40,6 +40,7 @@ impl DeliveryTag {
     }
 
     // A count's tag: its 4 bytes, highest first. A `From` would not say in which order.
+    #[tactic(auto, unfolding(crate::specs::Tags::tag_of))]
     pub fn from_count(count: u32) -> DeliveryTag
         ensures { result ≡ tag_of count }
     {

@@ -13,8 +13,7 @@ use Rattle.amqp.specs.declared.header.Header.{Header}
 use Rattle.amqp.specs.declared.stop.SessionStopReason.{SessionStopReason}
 use Rattle.amqp.specs.Refusals.{of_sink, send_number}
 use Rattle.sink.specs.Cuts.{count_of, split_fault}
-use Rattle.sink.specs.Frames.{Model, refused}
-use Rattle.queue.specs.Queues.{empty}
+use Rattle.sink.specs.Frames.{Model, empty, refused}
 use Rattle.unsettled.specs.declared.message.Place.{Place}
 use Rattle.unsettled.specs.Messages.{outside}
 use Rattle.link.specs.declared.delivery.Sendable.{Sendable}

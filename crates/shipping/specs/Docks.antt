@@ -9,8 +9,7 @@ use Rattle.amqp.specs.declared.mode.SenderSettleMode.TheVariants.{Unsettled}
 use Rattle.amqp.specs.declared.state.DeliveryState.{DeliveryState}
 use Rattle.amqp.specs.declared.state.DeliveryState.TheVariants.{Accepted}
 use Rattle.amqp.specs.declared.tag.DeliveryTag.{DeliveryTag}
-use Rattle.sink.specs.Frames.{Model}
-use Rattle.queue.specs.Queues.{empty}
+use Rattle.sink.specs.Frames.{Model, empty}
 use Rattle.link.specs.declared.delivery.Outcome.{Outcome}
 use Rattle.link.specs.declared.delivery.Outcome.TheVariants.{State}
 use Rattle.link.specs.declared.delivery.Sendable.{Sendable}

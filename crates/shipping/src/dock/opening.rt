@@ -1,6 +1,7 @@
 // Opening a dock: memory, and a link that is attached at both ends.
 ghost use Rattle.std.specs.Prelude.{◌≡◌, ℕ, IfOk, IsOkAnd};
-ghost use Rattle.queue.specs.Queues.{model_of, empty};
+ghost use Rattle.queue.specs.Queues.{model_of};
+ghost use Rattle.sink.specs.Frames.{empty};
 ghost use Rattle.link.specs.Views.{Rooms, fresh, made};
 ghost use Rattle.runs.specs.Safe.{Begun};
 ghost use Rattle.sender.specs.Views.{rooms_of};

@@ -1,5 +1,5 @@
 use Rattle.std.proofs.Common.{◌≡◌, ℕ, ◌^◌, ◌<◌, max, ap, ◌∙◌}
-use Rattle.queue.specs.Queues.{empty}
+use Rattle.sink.specs.Frames.{empty}
 use Rattle.shipping.specs.Openings.{rooms_in, seats_in, frame_cap, opened}
 use Rattle.shipping.proofs.Attaches.{credited, at_rest}
 use Rattle.shipping.proofs.dock.Dock.open.Goals as goal
