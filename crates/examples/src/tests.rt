@@ -5,6 +5,10 @@ use queue::queue::Queue;
 use sender::ticket::Settlement;
 use shipping::dock::opening::{LinkMemory, answering, empty_queue, settings_for};
 use shipping::dock::sending::plain;
+use sink::frame::Frame;
+use sink::sink::Sink;
+use spool::record::read;
+use spool::spool::Spool;
 use std::alloc::Global;
 use std::test::Fail;
 
@@ -93,5 +97,63 @@ fn splitting_examples(rt: HostRuntime) -> Result<(), Fail> {
         let came = sent(heap, &mut queue, frame, len, pool.as_slice())?;
         assert_eq!(rt; came.map_err(SendError::number), expected);
     }
+    Ok(())
+}
+
+// Sends messages of these lengths, one after the other.
+fn send_all<S: Sink>(
+    heap: Global,
+    sink: &mut S,
+    pool: &[u8],
+    lengths: &[usize],
+) -> Result<(), Fail> {
+    let mut memory = LinkMemory::with_entries(heap, 8)?;
+    let mut link = memory
+        .link(settings_for(512), 0)
+        .map_err(|_| Fail::new("no link"))?;
+    let _opened = link.open(0, false);
+    let _attached = link.attach(&answering(&[]), pool);
+    let _flow = link.flow(&grant(None, 100));
+    for len in lengths {
+        match link.send(sink, &Compact, pool, &plain(*len)) {
+            Ok(Settlement::Unsettled(ticket)) => {
+                let _progress = link.collect(ticket);
+            }
+            _ => return Err(Fail::new("not sent")),
+        }
+    }
+    Ok(())
+}
+
+fn are_same(a: &Frame<'_>, b: &Frame<'_>) -> bool {
+    a.kind == b.kind && a.handle == b.handle && a.header == b.header && a.payload == b.payload
+}
+
+#[test]
+fn same_frames_over_queue_and_spool(rt: HostRuntime) -> Result<(), Fail> {
+    let heap = rt.alloc();
+    let pool = vec![in heap; 7; 1500]?;
+    let lengths = [0, 1, 487, 488, 1500];
+    let mut queue = empty_queue(heap, 16, 512).map_err(|_| Fail::new("no queue"))?;
+    let mut spool =
+        Spool::new(vec![in heap; 0; 16384]?, 512).map_err(|_| Fail::new("no spool"))?;
+    send_all(heap, &mut queue, pool.as_slice(), &lengths)?;
+    send_all(heap, &mut spool, pool.as_slice(), &lengths)?;
+    let mut bytes = vec![in heap; 0; 16384]?;
+    let size = spool
+        .empty(&mut bytes)
+        .map_err(|_| Fail::new("not emptied"))?;
+    let bytes = bytes.as_slice().get(..size).unwrap_or_default();
+    let mut at = 0;
+    let mut out = [0; 512];
+    for _frame in 0..9 {
+        let place = queue.take(&mut out).ok().flatten();
+        let place = place.ok_or(Fail::new("no frame"))?;
+        let (spooled, next) = read(bytes, at).map_err(|_| Fail::new("no record"))?;
+        assert!(rt; are_same(&place.frame(&out), &spooled));
+        at = next;
+    }
+    assert!(rt; queue.take(&mut out).ok().flatten().is_none());
+    assert_eq!(rt; at, size);
     Ok(())
 }

@@ -40,12 +40,12 @@ stays bs r f n e =
     })
 
 -- a record is as long as it is told to be, has a front, and stands whole
-record Sizes (bs : List ℕ) (f : Frame) (n : ℕ) : Type 0 where
+pub record Sizes (bs : List ℕ) (f : Frame) (n : ℕ) : Type 0 where
   pub whole : n ≤ length bs
   pub front : 12 ≤ n
   pub told : n ≡ length (record_of f)
 
-sizes : (bs : List ℕ) (f : Frame) (n : ℕ) → read_of bs ≡ Ok (f, n) → Sizes bs f n
+pub sizes : (bs : List ℕ) (f : Frame) (n : ℕ) → read_of bs ≡ Ok (f, n) → Sizes bs f n
 sizes bs f n e =
     let a = read_as bs f n e in
     let x : a.header ≡ compact_bytes f.header = (header_exact compact_reading compact_lawful a.header).only f.header a.header_is in
@@ -57,7 +57,7 @@ sizes bs f n e =
       told = omega (arith, a.length_is, a.long, lx, lp, ap length x, length-append (compact_bytes f.header) f.payload);
     }
 
-none_in : (most : ℕ) → frames_within most [] ≡ []
+pub none_in : (most : ℕ) → frames_within most [] ≡ []
 unfolding read_of
 none_in zero = refl
 none_in (suc most) = refl

@@ -2,3 +2,4 @@ pub mod Parts
 pub mod Exact
 pub mod Writing
 pub mod Laying
+pub mod Fronts

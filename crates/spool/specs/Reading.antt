@@ -19,6 +19,10 @@ abbrev pub then : {A B : Type 0} → Result A ReadError → (A → Result B Read
 then (Ok x) f = f x
 then (Err e) f = Err e
 
+-- where a fault stands
+abbrev pub place_of : ReadError → ℕ
+place_of (NotEncoded at) = at
+
 -- n bytes from a place on, or the end as the place of the fault
 abbrev pub part_at : (n at : ℕ) → List ℕ → Result (List ℕ) ReadError
 part_at n at bs = cond (nat_lt (length bs) (at + n)) (Err (NotEncoded (length bs))) (Ok (take n (drop at bs)))
@@ -43,6 +47,15 @@ read_of bs =
     (then (header_at (from_le_bytes w16 size) bs) (λ header.
     then (part_at (from_le_bytes w32 rest - 8 - from_le_bytes w16 size) (12 + from_le_bytes w16 size) bs) (λ payload.
     Ok (frame kind (from_le_bytes w32 handle) header payload, 4 + from_le_bytes w32 rest))))))))))
+
+-- what was read of the bytes from a place on
+abbrev pub moved : ℕ → Result (Frame × ℕ) ReadError → Result (Frame × ℕ) ReadError
+moved at (Ok r) = Ok (r.0, at + r.1)
+moved at (Err (NotEncoded n)) = Err (NotEncoded (at + n))
+
+-- the record at a place, and where the next begins: past the end there is none
+abbrev pub read_at : ℕ → List ℕ → Result (Frame × ℕ) ReadError
+read_at at bs = moved (min at (length bs)) (read_of (drop at bs))
 
 -- the frame that was read, if one was, and those past its record
 abbrev pub first_then : Result (Frame × ℕ) ReadError → (ℕ → List Frame) → List Frame

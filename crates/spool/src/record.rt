@@ -1,6 +1,7 @@
 // Reading a record: a length of the rest, a kind, a handle, a header's length, a compact header and a payload.
-ghost use Rattle.std.specs.Prelude.{◌≡◌};
-ghost use Rattle.spool.specs.Reading.{part_at, header_at, read_of};
+ghost use Rattle.std.specs.Prelude.{◌≡◌, ◌<◌, ◌≤◌, ◌∷◌, [], length, drop, MatchResult};
+ghost use Rattle.sink.specs.Frames.{waiting_of};
+ghost use Rattle.spool.specs.Reading.{part_at, header_at, place_of, read_of, read_at, frames_in};
 ghost use Rattle.spool.specs.Exact.{Exact};
 ghost use Rattle.spool.specs.Told.{told, spelled};
 
@@ -52,9 +53,9 @@ fn header(bytes: &[u8], size: usize) -> Result<Header, ReadError>
 
 // The record at the front: its frame, and how many bytes it has.
 #[tactic(auto, unfolding(crate::specs::Reading::read_of))]
-pub fn read(bytes: &[u8]) -> Result<(Frame<'_>, usize), ReadError>
+fn front(bytes: &[u8]) -> Result<(Frame<'_>, usize), ReadError>
     ensures value { told result ≡ read_of bytes.now }
-    ensures exact { Exact bytes.now (read_of bytes.now) }
+    ensures place { MatchResult result (λ r. r.1 ≤ length bytes.now) (λ e. place_of e ≤ length bytes.now) }
 {
     let rest = u32::from_le_bytes(chunk(bytes, 0)?) as usize;
     if rest < FIELDS {
@@ -76,4 +77,20 @@ pub fn read(bytes: &[u8]) -> Result<(Frame<'_>, usize), ReadError>
         payload,
     };
     Ok((frame, LENGTH + rest))
+}
+
+// The record that begins at a place of the bytes: its frame, and where the next begins.
+pub fn read(bytes: &[u8], at: usize) -> Result<(Frame<'_>, usize), ReadError>
+    ensures value { told result ≡ read_at at bytes.now }
+    ensures exact { Exact (drop at bytes.now) (read_of (drop at bytes.now)) }
+
+    // So read one after the other, the records are those of the frames that the bytes read back to.
+    ensures frames { MatchResult result (λ r. frames_in (drop at bytes.now) ≡ waiting_of r.0 ∷ frames_in (drop r.1 bytes.now)) (λ _. frames_in (drop at bytes.now) ≡ []) }
+    ensures place { MatchResult result (λ r. (at < r.1) × (r.1 ≤ length bytes.now)) (λ e. place_of e ≤ length bytes.now) }
+{
+    let at = at.min(bytes.len());
+    match front(&bytes[at..]) {
+        Ok((frame, size)) => Ok((frame, at + size)),
+        Err(ReadError::NotEncoded { at: fault }) => Err(ReadError::NotEncoded { at: at + fault }),
+    }
 }
