@@ -1,7 +1,8 @@
 -- A record laid behind others: it is read after them.
-use Rattle.std.proofs.Common.{◌≡◌, ℕ, zero, suc, ◌+◌, ◌*◌, ◌/◌, ◌<◌, ◌≤◌, List, [], ◌∷◌, ◌++◌, length, drop, Ok, Err, Result, refl, sym, ap, ◌∙◌, arith, one-mul, mul-le-mul_right}
-use Rattle.std.proofs.Math.Nat.{div-mul-le_self, add-div_right}
+use Rattle.std.proofs.Common.{◌≡◌, ℕ, zero, suc, ◌+◌, ◌*◌, ◌/◌, ◌<◌, ◌≤◌, List, [], ◌∷◌, ◌++◌, length, drop, Some, None, Ok, Err, Option, Result, refl, sym, ap, ◌∙◌, arith, one-mul, mul-le-mul_right, IfSome}
+use Rattle.std.proofs.Math.Nat.{div-mul-le_self, add-div_right, mul-div_left}
 use Rattle.std.proofs.lemmas.Nat.{le-div}
+use Rattle.std.specs.Option.{SomeIff}
 use Rattle.std.proofs.lemmas.List.{append-nil, drop_at, drop_all, drop-append-le, length-append, length-drop, nil_from_length, flat_map_more}
 use Rattle.codec.specs.declared.error.ReadError.{ReadError}
 use Rattle.codec.specs.Headers.{compact_bytes}
@@ -109,7 +110,7 @@ roomy free widest h =
     let m : 1 * (267 + widest) ≤ free / (267 + widest) * (267 + widest) = mul-le-mul_right (267 + widest) h in
     omega (arith, div-mul-le_self free (267 + widest), one-mul (267 + widest))
 
-div_mono : (a b d : ℕ) → 0 < d → a ≤ b → a / d ≤ b / d
+pub div_mono : (a b d : ℕ) → 0 < d → a ≤ b → a / d ≤ b / d
 div_mono a b d p h = le-div (a / d) b d p (omega (arith, div-mul-le_self a d))
 
 -- and a record takes at most one
@@ -119,3 +120,8 @@ falls free left widest n e h =
       omega (arith, div_mono free (left + d) d (omega arith) (omega arith), add-div_right left {k = d} (omega arith)),
       div_mono left free d (omega arith) (omega arith),
     )
+
+-- memory for so many records has room for as many frames
+pub room_of : (o : Option ℕ) (P : Type 0) (places widest : ℕ) → SomeIff o P (places * (267 + widest)) → IfSome o (λ n. room_for n widest ≡ places)
+room_of (Some n) P places widest h = ap (λ k. k / (267 + widest)) h.1 ∙ mul-div_left places {n = 267 + widest} (omega arith)
+room_of None P places widest h = tt

@@ -14,6 +14,9 @@ const FRONT: usize = 12;
 // What a record's length does not count of the front: itself.
 const LENGTH: usize = 4;
 
+// The longest record, but for its payload.
+pub(crate) const MOST: usize = FRONT + HEADER;
+
 #[derive(Drop)]
 pub(crate) struct Memory {
     bytes: Vec<u8>,
@@ -60,12 +63,11 @@ impl Memory {
         self.used += part.len();
     }
 
-    // The longest record of a payload of this many bytes.
-    pub(crate) fn most(payload: usize) -> usize
-        requires { payload ≤ 65535 }
-        ensures { result ≡ 267 + payload }
+    // How many bytes were laid.
+    pub(crate) fn used(&self) -> usize
+        ensures { result ≡ length (laid self.now) }
     {
-        FRONT + HEADER + payload
+        self.used
     }
 
     // Lays the frame's record at the end.

@@ -9,6 +9,13 @@ use super::Spool;
 use amqp::error::MemoryError;
 
 impl Spool {
+    // How many bytes the records of all frames that wait have.
+    pub fn waiting_bytes(&self) -> usize
+        ensures { result ≡ length (records (model_of self.now).waiting) }
+    {
+        self.memory.used()
+    }
+
     // The records of all frames that wait go to the front of `out`, and how many bytes they are is the answer: nothing waits then, and
     // all memory is free again. Where `out` is shorter, all stays.
     pub fn empty(&mut self, out: &mut [u8]) -> Result<usize, MemoryError>

@@ -1,10 +1,10 @@
 // Making a spool of memory, and having the memory back.
-ghost use Rattle.std.specs.Prelude.{◌≡◌, ◌++◌, length, drop, vec_items};
+ghost use Rattle.std.specs.Prelude.{◌≡◌, ◌+◌, ◌*◌, ◌^◌, ◌<◌, ◌≤◌, ◌⊎◌, ◌++◌, length, drop, vec_items, MatchOption, IfSome};
 ghost use Rattle.spool.specs.Records.{records};
-ghost use Rattle.spool.specs.Spools.{model_of, Made};
+ghost use Rattle.spool.specs.Spools.{model_of, room_for, Made};
 
 use super::Spool;
-use crate::memory::Memory;
+use crate::memory::{MOST, Memory};
 use amqp::error::MakeError;
 
 // What a payload's length may be at most.
@@ -33,6 +33,17 @@ impl Spool {
             widest,
             stop: None,
         })
+    }
+
+    // How many bytes have room for so many frames, each with a payload of at most `widest` bytes: nothing where no spool is so large.
+    pub fn bytes_for(places: usize, widest: usize) -> Option<usize>
+        ensures size { MatchOption result ((65535 < widest) ⊎ (2 ^ 64 ≤ places * (267 + widest))) (λ n. n ≡ places * (267 + widest)) }
+        ensures room { IfSome result (λ n. room_for n widest ≡ places) }
+    {
+        if WIDEST < widest {
+            return None;
+        }
+        places.checked_mul(MOST + widest)
     }
 
     // The memory, with the records of what still waited at its front.

@@ -4,7 +4,7 @@ ghost use Rattle.sink.specs.Frames.{waiting_of, stopped_by, Grown};
 ghost use Rattle.spool.specs.Spools.{model_of};
 
 use super::Spool;
-use crate::memory::Memory;
+use crate::memory::MOST;
 use amqp::error::SinkError;
 use amqp::stop::SessionStopReason;
 use sink::frame::Frame;
@@ -22,7 +22,7 @@ impl Spool {
     fn room(&self) -> usize
         ensures { result ≡ (model_of self.now).vacancy }
     {
-        self.memory.free() / Memory::most(self.widest)
+        self.memory.free() / (MOST + self.widest)
     }
 
     fn lay(&mut self, frame: Frame<'_>)
