@@ -11,7 +11,13 @@ pub struct DeliveryTag {
     pub ghost clear: { drop len bytes ≡ replicate (32 - len) 0 },
 }
 
+// A derive would not know that zeros stand past no bytes.
 impl Default for DeliveryTag {
+    ghost use Rattle.std.specs.Prelude.{[]};
+    ghost use Rattle.amqp.specs.Tags.{tag_bytes};
+
+    ghost is_default = { λ t. tag_bytes t ≡ [] };
+
     fn default() -> DeliveryTag {
         DeliveryTag {
             len: 0,
