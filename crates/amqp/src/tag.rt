@@ -1,16 +1,34 @@
 // A delivery tag: 0 to 32 bytes (Part 2, 2.8.7).
-ghost use Rattle.std.specs.Prelude.{◌≡◌, length};
-ghost use Rattle.amqp.specs.Tags.{tag_bytes, tag_within, tag_of, SameBytesSameTag};
+ghost use Rattle.std.specs.Prelude.{◌≡◌, ◌-◌, ◌+◌, ◌≤◌, length, drop, replicate};
 
-// Zeros stand past its bytes, so that tags of the same bytes are equal. It is copied by value and takes no heap, as a link
+// Zeros stand past its bytes, so that tags of the same bytes are equal, whoever made them. It is copied by value and takes no heap, as a link
 // does, and a vector of fixed capacity is not `Copy`: so the length stands beside the bytes.
-#[derive(Clone, Copy, PartialEq, Eq, Default)]
+#[derive(Clone, Copy, PartialEq, Eq)]
 pub struct DeliveryTag {
     len: u8,
     bytes: [u8; 32],
+    pub ghost within: { (len ≤ 32) × (length bytes ≡ 32) },
+    pub ghost clear: { drop len bytes ≡ replicate (32 - len) 0 },
+}
+
+// A derive would not know that zeros stand past no bytes.
+impl Default for DeliveryTag {
+    ghost use Rattle.std.specs.Prelude.{[]};
+    ghost use Rattle.amqp.specs.Tags.{tag_bytes};
+
+    ghost is_default = { λ t. tag_bytes t ≡ [] };
+
+    fn default() -> DeliveryTag {
+        DeliveryTag {
+            len: 0,
+            bytes: [0; 32],
+        }
+    }
 }
 
 impl DeliveryTag {
+    ghost use Rattle.amqp.specs.Tags.{tag_bytes, tag_within, tag_of, SameBytesSameTag};
+
     // The tag of these bytes, or none where there are more than 32. An error of `TryFrom` could say no more.
     pub fn from_slice(s: &[u8]) -> Option<DeliveryTag>
         ensures { result ≡ tag_within s.now }
@@ -27,6 +45,7 @@ impl DeliveryTag {
     }
 
     // A count's tag: its 4 bytes, highest first. A `From` would not say in which order.
+    #[tactic(auto, unfolding(crate::specs::Tags::tag_of))]
     pub fn from_count(count: u32) -> DeliveryTag
         ensures { result ≡ tag_of count }
     {
@@ -46,9 +65,9 @@ impl DeliveryTag {
     {
         &self.bytes[..self.len()]
     }
-}
 
-// Two tags with the same bytes are one tag; the tag of bytes has these bytes, and a count's tag its four.
-pub fn same_bytes_same_tag()
-    ensures { SameBytesSameTag }
-{}
+    // Two tags with the same bytes are one tag; the tag of bytes has these bytes, and a count's tag its four.
+    pub fn same_bytes_same_tag()
+        ensures { SameBytesSameTag }
+    {}
+}

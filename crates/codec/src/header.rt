@@ -4,6 +4,7 @@ ghost use Rattle.amqp.specs.declared.header.Header.TheVariants as header;
 ghost use Rattle.codec.specs.Values.{header_value};
 ghost use Rattle.codec.specs.Bodies.{Encodes};
 ghost use Rattle.codec.specs.Headers.{header_bytes, MeansIn};
+ghost use Rattle.codec.specs.Meaning.{Ranged};
 ghost use Rattle.codec.specs.Written.{written, after_write};
 ghost use Rattle.codec.specs.Longer;
 
@@ -73,6 +74,7 @@ impl<F: Form> Encoder for F {
         ensures answer { result ≡ written (header_bytes F.form header.now) out.old }
         ensures after { out.new ≡ after_write (header_bytes F.form header.now) out.old }
         ensures meaning { MeansIn F.form.terse (header_bytes F.form header.now) header.now }
+        ensures ranged { Ranged (header_value F.form.terse header.now) }
     {
         copy_to(encoded::<F>(header).as_slice(), out)
     }

@@ -3,7 +3,7 @@ use Rattle.std.specs.Prelude.{◌≡◌, ℕ, ◌-◌, [], Some, None, Ok, Err, 
 use Rattle.std.specs.Global.{Vec}
 use Rattle.amqp.specs.declared.error.MakeError.TheVariants.{Sizes}
 use Rattle.amqp.specs.declared.stop.SessionStopReason.{SessionStopReason}
-use Rattle.sink.specs.Frames.{Model}
+use Rattle.sink.specs.Frames.{Model, empty}
 use Rattle.queue.specs.declared.place.Place.{Place}
 use Rattle.queue.specs.declared.queue.Queue.{Queue}
 use Rattle.queue.specs.declared.queue.making.Unmade.{Unmade}
@@ -18,14 +18,6 @@ model_of q =
       widest = q.widest;
       stopped = q.stop;
     }
-
--- nothing waits, and nothing is stopped
-abbrev pub empty : (places widest : ℕ) → Model
-empty places widest = record { waiting = []; vacancy = places; widest = widest; stopped = None }
-
--- with this stop reason, and all else as it was
-abbrev pub stopped_by : SessionStopReason → Model → Model
-stopped_by reason m = record { waiting = m.waiting; vacancy = m.vacancy; widest = m.widest; stopped = Some reason }
 
 -- a queue is made exactly where the sizes are in bounds, and else the memory comes back as it was
 abbrev pub Made : Vec Place → Vec ℕ → (widest : ℕ) → Result Queue Unmade → Type 0

@@ -1,6 +1,5 @@
--- Headers whose numbers fit their types, with tags that have no bytes but their own.
+-- Headers whose numbers fit their types.
 use Rattle.std.specs.Prelude.{◌^◌, ◌<◌, Some, None, Option}
-use Rattle.amqp.specs.Tags.{Canonical}
 use Rattle.amqp.specs.declared.state.DeliveryState.{DeliveryState}
 use Rattle.amqp.specs.declared.state.DeliveryState.TheVariants.{Received, Accepted, Rejected, Released, Modified}
 use Rattle.amqp.specs.declared.header.Transfer.{Transfer}
@@ -25,7 +24,6 @@ StateFits (Modified f u) = Unit {0}
 pub record TransferFits (h : Transfer) : Type 0 where
   pub handle : h.handle < 2 ^ 32
   pub id : Within (λ x. x < 2 ^ 32) h.delivery_id
-  pub tag : Within Canonical h.delivery_tag
   pub format : Within (λ x. x < 2 ^ 32) h.message_format
   pub state : Within StateFits h.state
 

@@ -1,9 +1,6 @@
 -- Fields, states and headers stay what they are read as, whatever follows, in each form whose own readings do.
-use Rattle.std.specs.Prelude.{◌≡◌, ℕ, ◌+◌, ◌-◌, ◌^◌, ◌<◌, ◌≤◌, Bool, true, false, cond, List, ◌++◌, length, replicate, Some, None, Ok, Err, Option, Result, ◌==◌, nat_lt, refl}
+use Rattle.std.specs.Prelude.{◌≡◌, ℕ, ◌+◌, ◌-◌, ◌^◌, ◌<◌, ◌≤◌, Bool, true, false, cond, List, ◌++◌, length, Some, None, Ok, Err, Option, Result, ◌==◌, nat_lt, refl}
 use Rattle.std.proofs.Common.{arith}
-use Rattle.std.proofs.lemmas.List.{length-append, length-replicate}
-use Rattle.std.proofs.Math.Seq.{drop-append_seam}
-use Rattle.amqp.specs.Tags.{Canonical}
 use Rattle.amqp.specs.declared.condition.AmqpError.{AmqpError}
 use Rattle.amqp.specs.declared.header.Header.TheVariants.{Transfer, Disposition}
 use Rattle.amqp.specs.declared.state.DeliveryState.{DeliveryState}
@@ -17,7 +14,7 @@ use Rattle.reader.specs.Reading.{Reading}
 use Rattle.reader.specs.States.{condition_of, known_at, tag_at, name_at, described_at, error_at, received_at, rejected_at, modified_at, plain_at, state_at}
 use Rattle.reader.specs.Steady.{Steady, bind, done, bad, either, lifted, eased, there, of_byte, of_text}
 use Rattle.reader.specs.Steadies.{Follows, SteadyReading, byte}
-use Rattle.reader.specs.Tags.{tag_from}
+use Rattle.amqp.specs.Tags.{tag_from}
 
 -- past what was read, or past the byte that says that there is something
 abbrev past : ℕ → Option Cursor → ℕ
@@ -82,20 +79,12 @@ module _ (src more : List ℕ) where
       next (Some true, d) l f = done (true, d) (omega arith) (omega arith) (λ z. tt)
       next (Some false, d) l f = bad (value_place c.at d.at) (omega arith)
 
-tag_canonical : (b : List ℕ) → length b ≤ 32 → Canonical (tag_from b)
-unfolding tag_from
-tag_canonical b l =
-    let rest : List ℕ = replicate (32 - length b) 0 in
-    let z = length-append b rest in
-    let r : length rest ≡ 32 - length b = length-replicate (32 - length b) 0 in
-    record { short = l; whole = omega arith; clear = drop-append_seam b rest }
-
 module _ {R : Reading} (S : SteadyReading R) where
-  tag : Follows Canonical (tag_at R)
+  tag : Follows Any (tag_at R)
   tag src more at =
       eased (omega arith) (omega arith) (bind (S.binaries src more 32 at) (λ s a f.
       of_text src more s.0 s.1 (λ b. Ok (tag_from b, s.1 + s.0)) (λ b. Ok (tag_from b, s.1 + s.0)) (omega arith) f.1 (λ b e.
-      done (tag_from b, s.1 + s.0) (omega arith) (omega arith) (λ z. tag_canonical b (omega (arith, f.0))))))
+      done (tag_from b, s.1 + s.0) (omega arith) (omega arith) (λ z. tt))))
 
   name : Follows Any (name_at R)
   name src more at =
@@ -165,7 +154,7 @@ module _ {R : Reading} (S : SteadyReading R) where
       bind (S.lists src more 1 11 at) (λ c z0 _.
       bind (eased (omega arith) (omega arith) (must src more (λ x. x < 2 ^ 32) S.uints c)) (λ h z1 fh.
       bind (may src more (λ x. x < 2 ^ 32) R.form.terse S.uints h.1) (λ i z2 fi.
-      bind (may src more Canonical R.form.terse tag i.1) (λ t z3 ft.
+      bind (may src more Any R.form.terse tag i.1) (λ t z3 ft.
       bind (may src more (λ x. x < 2 ^ 32) R.form.terse S.uints t.1) (λ f z4 ff.
       bind (may src more Any R.form.terse S.bools f.1) (λ s z5 _.
       bind (set src more S s.1 (omega arith)) (λ m z6 _.
@@ -188,7 +177,7 @@ module _ {R : Reading} (S : SteadyReading R) where
           batchable = b.0;
         }),
         b.1.at,
-      ) (omega arith) (omega arith) (λ z. record { handle = fh z; id = fi z; tag = ft z; format = ff z; state = fs z })))))))))))))
+      ) (omega arith) (omega arith) (λ z. record { handle = fh z; id = fi z; format = ff z; state = fs z })))))))))))))
 
   disposition : Follows Fits (disposition_at R)
   unfolding disposition_at

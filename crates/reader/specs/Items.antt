@@ -4,7 +4,7 @@ use Rattle.std.proofs.Math.Path.{refl}
 use Rattle.std.proofs.Common.{arith, lit≤}
 use Rattle.std.proofs.lemmas.List.{length-append, length-take}
 use Rattle.std.proofs.lemmas.Bool.{lt-ltb, le-ltb}
-use Rattle.amqp.specs.Tags.{tag_bytes, Canonical}
+use Rattle.amqp.specs.Tags.{tag_bytes}
 use Rattle.amqp.specs.declared.condition.AmqpError.{AmqpError}
 use Rattle.amqp.specs.declared.condition.AmqpError.TheVariants.{InternalError, NotFound, UnauthorizedAccess, DecodeError, ResourceLimitExceeded, NotAllowed, InvalidField, NotImplemented, ResourceLocked, PreconditionFailed, ResourceDeleted, IllegalState, FrameSizeTooSmall}
 use Rattle.amqp.specs.declared.state.Received.{Received as Reached}
@@ -20,7 +20,7 @@ use Rattle.reader.specs.States.{condition_of, tag_at, name_at, described_at, err
 use Rattle.reader.specs.Fits.{Within, Any, StateFits}
 use Rattle.reader.specs.Laws.{Left, Item, Lawful}
 use Rattle.reader.specs.Having.{has_take, has_split}
-use Rattle.reader.specs.Canons.{tag_is}
+use Rattle.amqp.proofs.Tags.{tag_is}
 use Rattle.reader.specs.Backs.{kept_first, must_back, may_back, null_back, end_of}
 
 pub then_step : {A B : Type 0} {r : Result A ℕ} {x : A} (f : A → Result B ℕ) {y : Result B ℕ} → r ≡ Ok x → f x ≡ y → then r f ≡ y
@@ -47,14 +47,14 @@ any (Some x) = tt
 any None = tt
 
 module _ (R : Reading) (L : Lawful R) where
-  pub tag : Item R DeliveryTag (tag_at R) tag_value Canonical
+  pub tag : Item R DeliveryTag (tag_at R) tag_value Any
   tag = record { present = λ x. refl; back = λ src at x v h. go src at x v h }
     where
-      go : (src : List ℕ) (at : ℕ) (x : DeliveryTag) → Canonical x → Has src at (encoded R.form (tag_value x)) → tag_at R src at ≡ Ok (x, at + length (encoded R.form (tag_value x)))
+      go : (src : List ℕ) (at : ℕ) (x : DeliveryTag) → Any x → Has src at (encoded R.form (tag_value x)) → tag_at R src at ≡ Ok (x, at + length (encoded R.form (tag_value x)))
       go src at x v h =
           let n : length (tag_bytes x) ≤ 32 = omega (arith, length-take (min x.len 32) x.bytes) in
           let s = L.binaries src at 32 (tag_bytes x) n n h in
-          then_step _ s.1 (rw (has_take (tag_bytes x) src s.0 s.2, tag_is x v, s.3))
+          then_step _ s.1 (rw (has_take (tag_bytes x) src s.0 s.2, tag_is x n, s.3))
 
   pub name : Item R AmqpError (name_at R) (λ k. symbol (condition_name k)) Any
   name =

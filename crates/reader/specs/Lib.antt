@@ -19,7 +19,6 @@ pub mod Digits
 pub mod Whole
 pub mod Backs
 pub mod Items
-pub mod Canons
 pub mod Wides
 pub mod Steady
 pub mod Steadies

@@ -361,7 +361,7 @@ module _ (R : Reading) (L : Lawful R) (P : Picky R) (src : List ℕ) (at : ℕ) 
       goes _ (opened_cut q 1 (transfer_fields t x) (one_kept R L (uint x.handle) r0 refl) (omega arith) l) (λ c m.
       goes _ (must_cut L.uints (λ x _. uint_broken x) c x.handle r0 v.handle m) (λ c m.
       goes _ (may_cut L.uints (λ x _. uint_broken x) P.uints c x.delivery_id r1 v.id m) (λ c m.
-      goes _ (may_cut (tag R L) (λ x _. tag_broken x) tag_refuses c x.delivery_tag r2 v.tag m) (λ c m.
+      goes _ (may_cut (tag R L) (λ x _. tag_broken x) tag_refuses c x.delivery_tag r2 (any x.delivery_tag) m) (λ c m.
       goes _ (may_cut L.uints (λ x _. uint_broken x) P.uints c x.message_format r3 v.format m) (λ c m.
       goes _ (may_cut L.bools (λ x _. bool_broken x) P.bools c x.settled r4 (any x.settled) m) (λ c m.
       goes _ (flag_cut c x.more r5 m) (λ c m.

@@ -35,7 +35,7 @@ module _ (R : Reading) (L : Lawful R) where
   transfer_from src p end x v c o l =
       let a1 = must_back R L.uints x.handle v.handle l in
       let a2 = may_back R L L.uints x.delivery_id v.id a1.2 in
-      let a3 = may_back R L (tag R L) x.delivery_tag v.tag a2.2 in
+      let a3 = may_back R L (tag R L) x.delivery_tag (any x.delivery_tag) a2.2 in
       let a4 = may_back R L L.uints x.message_format v.format a3.2 in
       let a5 = may_back R L L.bools x.settled (any x.settled) a4.2 in
       let a6 = flag_back R L x.more a5.2 in

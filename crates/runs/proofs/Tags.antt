@@ -6,6 +6,7 @@ use Rattle.unsettled.specs.Tables.{same_tag}
 use Rattle.unsettled.proofs.Same.{same_tag_decides}
 
 same_count : (a b : ℕ) → a ≤ 4294967295 → b ≤ 4294967295 → tag_of a ≡ tag_of b → a ≡ b
+unfolding tag_of
 same_count a b ha hb e =
     let highest : a / 16777216 % 256 ≡ b / 16777216 % 256 = ap (λ (t : DeliveryTag). get_or t.bytes 0 0) e in
     let second : a / 65536 % 256 ≡ b / 65536 % 256 = ap (λ (t : DeliveryTag). get_or t.bytes 1 0) e in

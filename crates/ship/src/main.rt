@@ -1,15 +1,23 @@
 // Ships files to an archive, one AMQP message each.
 #![tactic(auto)]
 
+mod spooling;
+
+use crate::spooling::SpoolFile;
 use codec::compact::Compact;
+use queue::queue::Queue;
 use shipping::dock::Dock;
 use shipping::dock::opening::LinkMemory;
-use shipping::options::{Options, parse};
+use shipping::options::{Options, parse, spool_file};
+use shipping::outbox::Outbox;
 use shipping::report::{ShipError, Totals};
+use spool::spool::Spool;
+use std::io::{BufWriter, Write};
 use std::process::ExitCode;
 use std::{env, fmt, fs, io};
 
-const USAGE: &str = "usage: ship [--frame N] [--credit N] SHELF=FILE ...
+const USAGE: &str = "usage: ship [--spool FILE] [--frame N] [--credit N] SHELF=FILE ...
+  With --spool, which comes first, the frames go through a spool, and its records to FILE.
   SHELF is response, mesh or raylog. Frames have 512 bytes at most, the credit is 100.
   A frame size above 65535 counts as 65535.";
 
@@ -30,12 +38,13 @@ fn fail(rt: &HostRuntime, what: impl fmt::Display + Drop) -> Failed {
     Failed
 }
 
-// Ships one file after the other, until one cannot be read. It fails too where one was refused.
-fn ship_all(
+// Ships one file after the other, until one cannot be read or no more can be written. It fails too where one was refused.
+fn ship_all<S: Outbox, W: Write + Drop>(
     rt: &HostRuntime,
     options: &Options<'_>,
-    dock: &mut Dock<'_>,
+    dock: &mut Dock<'_, S>,
     totals: &mut Totals,
+    spool: &mut SpoolFile<W>,
 ) -> Result<(), Failed> {
     let mut shipped = Ok(());
     for parcel in &options.parcels {
@@ -43,7 +52,11 @@ fn ship_all(
         let path = parcel.path;
         let file = fs::read(rt, path).map_err(|e| fail(rt, format_args!("{path}: {e}")))?;
         let len = file.len();
-        match dock.ship(&Compact, file.as_slice()) {
+        let outcome = dock.ship(&Compact, file.as_slice());
+        spool
+            .append(dock.take_log().as_slice())
+            .map_err(|e| fail(rt, e))?;
+        match outcome {
             Ok(shipment) => {
                 println!(rt; "{shelf} {path}: {len} bytes, {shipment}")?;
                 totals.add(len, &shipment);
@@ -59,14 +72,35 @@ fn ship_all(
     shipped
 }
 
-fn run(rt: &HostRuntime, options: &Options<'_>) -> Result<(), Failed> {
+fn run<S: Outbox, W: Write + Drop>(
+    rt: &HostRuntime,
+    options: &Options<'_>,
+    spool: &mut SpoolFile<W>,
+) -> Result<(), Failed> {
     let heap = rt.alloc();
     let mut memory = LinkMemory::new(heap).map_err(|_| fail(rt, ShipError::NoMemory))?;
-    let opened = Dock::open(heap, &mut memory, options.frame, options.credit);
+    let opened: Result<Dock<'_, S>, ShipError> = Dock::open(
+        heap,
+        &mut memory,
+        options.frame,
+        options.credit,
+    );
     let mut dock = opened.map_err(|e| fail(rt, e))?;
     let mut totals = Totals::default();
-    let shipped = ship_all(rt, options, &mut dock, &mut totals);
+    let shipped = ship_all(rt, options, &mut dock, &mut totals, spool);
     println!(rt; "{totals}")?;
+    shipped
+}
+
+// The frames go through a spool, whose records go to the file.
+fn run_spooled(rt: &HostRuntime, options: &Options<'_>, path: &str) -> Result<(), Failed> {
+    let created = fs::create(rt, path).map_err(|e| fail(rt, format_args!("{path}: {e}")))?;
+    let out = BufWriter::new(rt.alloc(), created).map_err(|e| fail(rt, e))?;
+    let mut spool = SpoolFile::new(out);
+    let shipped = run::<Spool, _>(rt, options, &mut spool);
+    let flushed = spool.flush();
+    println!(rt; "{path}: {spool}")?;
+    flushed.map_err(|e| fail(rt, format_args!("{path}: {e}")))?;
     shipped
 }
 
@@ -77,8 +111,13 @@ fn words(rt: &HostRuntime) -> io::Result<Vec<String>> {
 
 fn start(rt: &HostRuntime) -> Result<(), Failed> {
     let words = words(rt).map_err(|e| fail(rt, e))?;
-    let options = parse(rt.alloc(), words.as_slice()).map_err(|e| fail(rt, e))?;
-    run(rt, &options)
+    let (spool, words) = spool_file(words.as_slice());
+    let options = parse(rt.alloc(), words).map_err(|e| fail(rt, e))?;
+    match spool {
+        Some(path) => run_spooled(rt, &options, path),
+        // A queue's log is empty.
+        None => run::<Queue, _>(rt, &options, &mut SpoolFile::new(io::sink())),
+    }
 }
 
 fn main(rt: HostRuntime) -> ExitCode {

@@ -4,7 +4,7 @@ use Rattle.std.proofs.lemmas.Bool.Decides.{nat_tests}
 use Rattle.amqp.specs.declared.error.MakeError.{MakeError}
 use Rattle.amqp.specs.declared.error.MakeError.TheVariants.{Sizes}
 use Rattle.sink.specs.Frames.{Model}
-use Rattle.queue.specs.Queues as queues
+use Rattle.sink.specs.Frames as sinks
 use Rattle.link.specs.declared.seat.Seat.TheVariants.{Free}
 use Rattle.link.specs.declared.settings.Settings.{Settings}
 use Rattle.link.specs.Calls.{Flow, step}
@@ -33,7 +33,7 @@ credited frame credit seats rooms v w a e f l h =
 some_seat : (rooms : Rooms) (seats : ℕ) → bad_sizes rooms seats ≡ false → seats ≡ suc (seats - 1)
 some_seat rooms seats h = grind (arith, nat_tests)
 
-pub at_rest : (frame credit seats places widest : ℕ) (rooms : Rooms) (v : View) (q : Model) → v ≡ opened frame credit rooms seats → q ≡ queues.empty places widest → bad_sizes rooms seats ≡ false → AtRest v q
+pub at_rest : (frame credit seats places widest : ℕ) (rooms : Rooms) (v : View) (q : Model) → v ≡ opened frame credit rooms seats → q ≡ sinks.empty places widest → bad_sizes rooms seats ≡ false → AtRest v q
 at_rest frame credit seats places widest rooms v q e f h =
     record {
       mode = ap (λ (x : View). x.settings.snd_settle_mode) e;

@@ -6,3 +6,4 @@ pub mod Shipments
 pub mod Attaches
 pub mod Wording
 pub mod Telling
+pub mod Spools

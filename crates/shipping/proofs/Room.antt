@@ -1,5 +1,5 @@
 -- A send that finds no room, and how the queue gets it.
-use Rattle.std.proofs.Common.{◌≡◌, ℕ, ◌+◌, ◌-◌, ◌*◌, ◌<◌, ◌≤◌, min, max, Bool, true, false, cond, not, eqb, List, [], ◌∷◌, ◌++◌, length, Some, None, Err, Option, sym, refl, ap, ◌∙◌, div-le_self, arith}
+use Rattle.std.proofs.Common.{◌≡◌, ℕ, ◌+◌, ◌-◌, ◌*◌, ◌<◌, ◌≤◌, min, max, Bool, true, false, cond, not, eqb, List, [], ◌∷◌, ◌++◌, length, Some, None, Err, Option, sym, refl, ap, ◌∙◌, subst, div-le_self, arith}
 use Rattle.std.proofs.lemmas.Bool.{ltb-true, eqb-true, eqb-false}
 use Rattle.std.proofs.lemmas.Bool.Decides.{nat_tests}
 use Rattle.std.specs.Option.{option_map}
@@ -14,7 +14,6 @@ use Rattle.amqp.specs.declared.stop.SessionStopReason.{SessionStopReason}
 use Rattle.amqp.specs.Refusals.{of_sink, send_number}
 use Rattle.sink.specs.Cuts.{count_of, split_fault}
 use Rattle.sink.specs.Frames.{Model, refused}
-use Rattle.queue.specs.Queues.{empty}
 use Rattle.unsettled.specs.declared.message.Place.{Place}
 use Rattle.unsettled.specs.Messages.{outside}
 use Rattle.link.specs.declared.delivery.Sendable.{Sendable}
@@ -24,8 +23,7 @@ use Rattle.link.specs.Settings.{exceeds}
 use Rattle.link.specs.Views.{View}
 use Rattle.link.proofs.Rows.{first_alone, row_off, gated_err}
 use Rattle.sender.specs.Sends.{Sends}
-use Rattle.shipping.specs.Docks.{doubled, roomier, Roomed, plain}
-use Rattle.shipping.specs.Unloading.{emptied}
+use Rattle.shipping.specs.Docks.{Roomier, Roomed, plain}
 use Rattle.shipping.proofs.Sends.{all_of, stayed}
 
 abbrev Other : Option SendError → Type 0
@@ -99,40 +97,47 @@ lacks v c m h =
 needs_at_most : (len share : ℕ) → count_of len share ≤ max 1 len
 needs_at_most len share = omega (arith, div-le_self (len - 1) share)
 
--- how far a queue is from room for a message of `len` bytes: the places that it lacks, and then whether something waits
+-- how far a sink is from room for a message of `len` bytes: the places that it lacks, and then whether something waits
 abbrev pub hunger : (len : ℕ) → Model → ℕ
-hunger len m = 2 * (len + 1 - (m.vacancy + length m.waiting)) + min 1 (length m.waiting)
+hunger len m = 2 * (len + 1 - m.vacancy) + min 1 (length m.waiting)
 
-sated : (len : ℕ) (s : Model) (share : ℕ) (b : Bool) → eqb (length s.waiting) 0 ≡ b → s.vacancy < count_of len share → len ≤ 67108864 → hunger len (roomier s) < hunger len s
-sated len s share true e few fits =
-    let none = eqb-true (length s.waiting) 0 e in simp e (omega (arith, needs_at_most len share))
-sated len s share false e few fits =
-    let some = eqb-false (length s.waiting) 0 e in simp e (omega (arith, some))
+less_hungry : (len : ℕ) (s t : Model) (share : ℕ) → Roomier s t → s.vacancy < count_of len share → len ≤ 67108864 → hunger len t < hunger len s
+less_hungry len s t share r few fits = by (eqb (length s.waiting) 0) refl
+  where
+    by : (b : Bool) → eqb (length s.waiting) 0 ≡ b → hunger len t < hunger len s
+    by true e =
+        let l = r.none (eqb-true (length s.waiting) 0 e) in
+        omega (arith, needs_at_most len share, l.most, ap (λ (m : Model). m.vacancy) l.new, ap (λ (m : Model). length m.waiting) l.new)
+    by false e =
+        let some = eqb-false (length s.waiting) 0 e in
+        let l = r.some some in
+        omega (arith, needs_at_most len share, some, l.vacancy, ap length l.waiting)
 
-less_hungry : (len : ℕ) (s : Model) (share : ℕ) → s.vacancy < count_of len share → len ≤ 67108864 → hunger len (roomier s) < hunger len s
-less_hungry len s share few fits = sated len s share (eqb (length s.waiting) 0) refl few fits
+-- a sink that was given room: nothing waits in it, and if it is not stopped it stays as it is but for its room
+record Given (s t : Model) : Type 0 where
+  pub waiting : t.waiting ≡ []
+  pub widest : t.widest ≡ s.widest
+  pub stopped : s.stopped ≡ None → t.stopped ≡ s.stopped
 
--- nothing waits in a queue that was given room
-none_left : (s : Model) (b : Bool) → eqb (length s.waiting) 0 ≡ b → (roomier s).waiting ≡ []
-none_left s true e = simp e
-none_left s false e = simp e
+given : (s t : Model) → Roomier s t → Given s t
+given s t r = by (eqb (length s.waiting) 0) refl
+  where
+    by : (b : Bool) → eqb (length s.waiting) 0 ≡ b → Given s t
+    by true e =
+        let l = r.none (eqb-true (length s.waiting) 0 e) in
+        record { waiting = ap (λ (m : Model). m.waiting) l.new; widest = ap (λ (m : Model). m.widest) l.new; stopped = λ running. ap (λ (m : Model). m.stopped) l.new ∙ sym running }
+    by false e =
+        let l = r.some (eqb-false (length s.waiting) 0 e) in
+        record { waiting = l.waiting; widest = l.widest; stopped = λ _. l.stopped }
 
-pub roomier_none : (s : Model) → (roomier s).waiting ≡ []
-roomier_none s = none_left s (eqb (length s.waiting) 0) refl
+pub roomier_none : (s t : Model) → Roomier s t → t.waiting ≡ []
+roomier_none s t r = (given s t r).waiting
 
-one_of : (s x y : Model) (b : Bool) → Roomed s x → Roomed s y → Roomed s (cond b x y)
-one_of s x y true h k = h
-one_of s x y false h k = k
+pub room_made : (s t : Model) → s.stopped ≡ None → Roomier s t → Roomed s t
+room_made s t running r = let g = given s t r in record { widest = g.widest; stopped = g.stopped running; waiting = λ _. g.waiting }
 
--- a queue that is not stopped stays as it is but for its room
-pub room_made : (s : Model) → s.stopped ≡ None → Roomed s (roomier s)
-room_made s running =
-    one_of s (empty (doubled s.vacancy) s.widest) (emptied s) (eqb (length s.waiting) 0)
-    (record { widest = refl; stopped = sym running; waiting = λ _. refl })
-    (record { widest = refl; stopped = refl; waiting = λ _. refl })
-
--- a queue that had no room for a message comes nearer to it
-pub fed : (v : View) (bytes : Header → List ℕ) (msg : List ℕ) (s : Model) (e : SendError) (w : View) (t t' : Model) → e ≡ send.SinkFull → Sends v (carrier bytes msg s) (plain (length msg)) (Err e) w t → t' ≡ roomier t → hunger (length msg) t' < hunger (length msg) s
+-- a sink that had no room for a message comes nearer to it
+pub fed : (v : View) (bytes : Header → List ℕ) (msg : List ℕ) (s : Model) (e : SendError) (w : View) (t t' : Model) → e ≡ send.SinkFull → Sends v (carrier bytes msg s) (plain (length msg)) (Err e) w t → Roomier t t' → hunger (length msg) t' < hunger (length msg) s
 fed v bytes msg s e w t t' full h r =
     let c = carrier bytes msg s in
     let m = plain (length msg) in
@@ -140,7 +145,7 @@ fed v bytes msg s e w t t' full h r =
     let lack = lacks v c m (some ∙ ap (λ (x : SendError). Some x) full) in
     let kept = (stayed v c m e w t h).1 in
     let few : s.vacancy < count_of (length msg) (max 1 (share_for v c m)) = rw (all_of msg) at lack.0 in
-    rw (r, kept) (less_hungry (length msg) s (max 1 (share_for v c m)) few lack.1)
+    less_hungry (length msg) s t' (max 1 (share_for v c m)) (subst (λ (x : Model). Roomier x t') kept r) few lack.1
 
 -- a stopped queue is refused for that, and not for want of room
 pub was_running : (v : View) (bytes : Header → List ℕ) (msg : List ℕ) (s : Model) (e : SendError) (w : View) (t : Model) → e ≡ send.SinkFull → Sends v (carrier bytes msg s) (plain (length msg)) (Err e) w t → s.stopped ≡ None

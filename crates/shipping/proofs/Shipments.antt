@@ -83,7 +83,7 @@ from_rest u credit b bytes msg s t t' x a (Ok p) w w' rest gone h =
         ticket = h.1 ∙ numbered u (length msg) x rest.mode gone.answer;
         frames = h.2 ∙ gone.frames rest.waiting;
       },
-      rests_again u s (length msg) w' t t' rest link (ap (λ (m : Model). m.waiting) h.0.queue),
+      rests_again u s (length msg) w' t t' rest link h.0.queue.waiting,
     )
 from_rest u credit b bytes msg s t t' x a (Err (Refused e)) w w' rest gone h = absurd h
 from_rest u credit b bytes msg s t t' x a (Err NoMemory) w w' rest gone h = tt

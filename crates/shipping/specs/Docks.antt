@@ -1,5 +1,5 @@
 -- A dock: its link and its queue, how a message goes out by them, and what becomes of it.
-use Rattle.std.specs.Prelude.{◌≡◌, ℕ, suc, ◌*◌, ◌^◌, ◌≤◌, ◌⊎◌, min, max, true, false, cond, List, [], length, replicate, Some, None, Ok, Err, Option, Result, ◌==◌, ◌≢◌}
+use Rattle.std.specs.Prelude.{◌≡◌, ℕ, suc, ◌*◌, ◌^◌, ◌≤◌, ◌⊎◌, min, max, true, false, List, [], length, replicate, Some, None, Ok, Err, Option, Result, ◌≢◌}
 use Rattle.amqp.specs.declared.error.SendError.{SendError}
 use Rattle.amqp.specs.declared.error.SendError.TheVariants.{NoCredit, OutsidePool, SinkFull}
 use Rattle.amqp.specs.declared.error.TicketError.{TicketError}
@@ -9,8 +9,7 @@ use Rattle.amqp.specs.declared.mode.SenderSettleMode.TheVariants.{Unsettled}
 use Rattle.amqp.specs.declared.state.DeliveryState.{DeliveryState}
 use Rattle.amqp.specs.declared.state.DeliveryState.TheVariants.{Accepted}
 use Rattle.amqp.specs.declared.tag.DeliveryTag.{DeliveryTag}
-use Rattle.sink.specs.Frames.{Model}
-use Rattle.queue.specs.Queues.{empty}
+use Rattle.sink.specs.Frames.{Model, empty}
 use Rattle.link.specs.declared.delivery.Outcome.{Outcome}
 use Rattle.link.specs.declared.delivery.Outcome.TheVariants.{State}
 use Rattle.link.specs.declared.delivery.Sendable.{Sendable}
@@ -27,7 +26,7 @@ use Rattle.shipping.specs.declared.report.ShipError.TheVariants.{Refused, NoMemo
 use Rattle.shipping.specs.declared.report.Shipment.{Shipment}
 use Rattle.shipping.specs.Archives.{Intake, took_all, granting, Judged}
 use Rattle.shipping.specs.Sections.{data_section}
-use Rattle.shipping.specs.Unloading.{emptied}
+use Rattle.shipping.specs.Unloading.{Emptied}
 
 -- what is known of a dock: its link, the frames that wait, what its archive has taken in, and the credit granted at a time
 pub record Docked : Type 0 where
@@ -42,9 +41,16 @@ pub record Docked : Type 0 where
 abbrev pub doubled : ℕ → ℕ
 doubled n = max (min (n * 2) 18446744073709551615) 1
 
--- the queue is read out, or made larger where nothing waited
-abbrev pub roomier : Model → Model
-roomier m = cond (length m.waiting == 0) (empty (doubled m.vacancy) m.widest) (emptied m)
+-- where nothing waited, a new sink with twice as many places as it had, or more
+pub record Larger (s t : Model) : Type 0 where
+  pub places : ℕ
+  pub most : s.vacancy ≤ places
+  pub new : t ≡ empty (doubled places) s.widest
+
+-- the sink is read out, or made larger where nothing waited
+pub record Roomier (s t : Model) : Type 0 where
+  pub some : (length s.waiting ≡ 0 → ⊥) → Emptied s t
+  pub none : length s.waiting ≡ 0 → Larger s t
 
 -- ---- a message goes out
 
@@ -117,7 +123,7 @@ pub record Answered (a : Intake) (msg : List ℕ) (v w : View) : Type 0 where
 pub record Settled (v : View) (s : Model) (a : Intake) (msg : List ℕ) (number : ℕ) (told : Result (Option Outcome) TicketError) (w : View) (t : Model) : Type 0 where
   pub between : View
   pub answer : Answered (took_all s.waiting a) msg v between
-  pub queue : t ≡ emptied s
+  pub queue : Emptied s t
   pub ticket : told ≡ looked between number
   pub link : w ≡ step between (Collect number)
 

@@ -2,7 +2,7 @@
 use Rattle.std.specs.Prelude.{◌≡◌, ℕ, min, max, true, false, List, replicate, Some, Ok, Err, vec_len, Result}
 use Rattle.amqp.specs.declared.mode.SenderSettleMode.TheVariants.{Unsettled}
 use Rattle.amqp.specs.declared.mode.ReceiverSettleMode.TheVariants.{First}
-use Rattle.queue.specs.Queues as queues
+use Rattle.sink.specs.Frames as sinks
 use Rattle.unsettled.specs.declared.peer.PeerDelivery.{PeerDelivery}
 use Rattle.link.specs.declared.attach.Attach.{Attach}
 use Rattle.link.specs.declared.seat.Seat.TheVariants.{Free}
@@ -61,7 +61,7 @@ frame_cap frame = min frame 65535
 -- a dock at rest, with this frame size and credit
 pub record Open (m : LinkMemory) (frame credit : ℕ) (d : Docked) : Type 0 where
   pub link : d.link ≡ opened (frame_cap frame) credit (rooms_in m) (seats_in m)
-  pub queue : d.queue ≡ queues.empty 16 (max (frame_cap frame) 1)
+  pub queue : d.queue ≡ sinks.empty 16 (max (frame_cap frame) 1)
   pub rest : AtRest d.link d.queue
 
 -- the dock, or an error for want of memory, or where the sizes of what the link is lent do not fit

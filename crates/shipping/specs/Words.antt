@@ -1,6 +1,7 @@
 -- The words of the command line, and what they are read as.
-use Rattle.std.specs.Prelude.{◌≡◌, ℕ, ◌⊎◌, List, [], ◌∷◌, ◌++◌, map, Some, None, vec_items, codes, Option, Result, ◌≢◌, MatchResult}
+use Rattle.std.specs.Prelude.{◌≡◌, ℕ, ◌⊎◌, Bool, true, false, List, [], ◌∷◌, ◌++◌, map, Some, None, vec_items, codes, Option, Result, ◌≢◌, MatchResult}
 use Rattle.std.specs.Option.{unwrap_or}
+use Rattle.std.specs.Str.{bytes_eq}
 use Rattle.shipping.specs.declared.options.Key.{Key}
 use Rattle.shipping.specs.declared.options.Key.TheVariants.{Frame, Credit}
 use Rattle.shipping.specs.declared.options.Options.{Options}
@@ -42,6 +43,16 @@ usage_text (BadNumber k word) = key_text k ++ (codes " " ++ (word.now ++ codes "
 usage_text (NoShelf word) = word.now ++ codes " is not SHELF=FILE"
 usage_text (UnknownShelf name) = name.now ++ codes " is no shelf"
 usage_text NoMemory = codes "not enough memory"
+
+-- the file of a spool where the words begin with one, and the words after it
+abbrev pub spool_with : (spooled : Bool) → (file word : List ℕ) → List (List ℕ) → Option (List ℕ) × List (List ℕ)
+spool_with true file word ws = (Some file, ws)
+spool_with false file word ws = (None, word ∷ file ∷ ws)
+
+abbrev pub spool_of : List (List ℕ) → Option (List ℕ) × List (List ℕ)
+spool_of [] = (None, [])
+spool_of (word ∷ []) = (None, word ∷ [])
+spool_of (word ∷ file ∷ ws) = spool_with (bytes_eq word (codes "--spool")) file word ws
 
 -- what has been read: the numbers of the options, the option whose number comes next, and the files
 pub record SoFar : Type 0 where

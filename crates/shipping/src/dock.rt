@@ -1,6 +1,6 @@
-// Where files are shipped: a link, the queue of its frames, and the archive that reads them.
+// Where files are shipped: a link, the sink of its frames, and the archive that reads them.
 use crate::archive::Archive;
-use queue::queue::Queue;
+use crate::outbox::Outbox;
 use sender::sender_link::SenderLink;
 use std::alloc::Global;
 use std::marker::Model;
@@ -10,23 +10,22 @@ pub mod sending;
 pub mod shipping;
 
 #[derive(Drop)]
-pub struct Dock<'a> {
+pub struct Dock<'a, S: Outbox> {
     heap: Global,
     link: SenderLink<'a>,
-    queue: Queue,
-    // Where a frame's payload is read to.
-    out: Vec<u8>,
+    sink: S,
+    // What the sink keeps of the frames that were read out.
+    log: Vec<u8>,
     archive: Archive,
     // What the archive grants at a time.
     credit: u32,
 }
 
-// What callers see of a dock, without the memory that payloads are read to.
-impl<'a> Model for Dock<'a> {
-    ghost use Rattle.queue.specs.Queues.{model_of};
+// What callers see of a dock, without its log.
+impl<'a, S: Outbox> Model for Dock<'a, S> {
     ghost use Rattle.shipping.specs.Docks.{Docked};
 
     ghost Value = { Docked };
 
-    ghost view = { λ d. record { link = d.link; queue = model_of d.queue; archive = d.archive; credit = d.credit } };
+    ghost view = { λ d. record { link = d.link; queue = S.Sink.model d.sink; archive = d.archive; credit = d.credit } };
 }

@@ -6,6 +6,7 @@ pub mod dock;
 pub mod message;
 pub mod number;
 pub mod options;
+pub mod outbox;
 pub mod report;
 pub mod shelf;
 pub mod unload;

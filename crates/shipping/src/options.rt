@@ -1,7 +1,8 @@
 // The words of the command line.
 ghost use Rattle.std.specs.Prelude.{◌≡◌, ◌⊎◌, [], map, is_some, Some, None, string_bytes, MatchResult, ◌≢◌};
+ghost use Rattle.std.specs.Option.{option_map};
 ghost use Rattle.shipping.specs.declared.options.UsageError.TheVariants.{NoMemory};
-ghost use Rattle.shipping.specs.Words.{Wanted, wanted, parcel_text, key_text, ReadsKey, usage_text, SoFar, unread, number_of, numbered, awaiting, NamesFile, Takes, TakesAll, Stops, Meant};
+ghost use Rattle.shipping.specs.Words.{Wanted, wanted, spool_of, parcel_text, key_text, ReadsKey, usage_text, SoFar, unread, number_of, numbered, awaiting, NamesFile, Takes, TakesAll, Stops, Meant};
 
 use crate::number::read_u32;
 use crate::shelf::Shelf;
@@ -205,7 +206,18 @@ impl<'a> Reading<'a> {
     }
 }
 
-// The options and files of a command line, without the program's own name.
+// The file of `--spool FILE` where a command line begins so, and the words after it.
+pub fn spool_file(words: &[String]) -> (Option<&str>, &[String])
+    ensures file { option_map (λ f. f.now) result.0 ≡ (spool_of (map string_bytes words.now)).0 }
+    ensures rest { map string_bytes result.1.now ≡ (spool_of (map string_bytes words.now)).1 }
+{
+    match words {
+        [option, file, rest @ ..] if option.as_str() == "--spool" => (Some(file.as_str()), rest),
+        _ => (None, words),
+    }
+}
+
+// The options and files of a command line, without the program's own name and what a spool's file takes.
 pub fn parse<'a>(heap: Global, words: &'a [String]) -> Result<Options<'a>, UsageError<'a>>
     ensures { MatchResult result (λ o. (s : SoFar) × TakesAll (map string_bytes words.now) unread s × Meant s o) (λ e. (e ≡ NoMemory) ⊎ Stops (map string_bytes words.now) unread) }
 {

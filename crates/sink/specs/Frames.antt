@@ -1,5 +1,5 @@
 -- What a sink means, and what a put answers.
-use Rattle.std.specs.Prelude.{◌≡◌, ℕ, ◌+◌, ◌≤◌, Bool, true, false, List, ◌++◌, length, Some, None, Ok, Err, Option, Result, nat_lt}
+use Rattle.std.specs.Prelude.{◌≡◌, ℕ, ◌+◌, ◌≤◌, Bool, true, false, List, [], ◌++◌, length, Some, None, Ok, Err, Option, Result, nat_lt}
 use Rattle.amqp.specs.declared.header.Header.{Header}
 use Rattle.amqp.specs.declared.header.FrameKind.{FrameKind}
 use Rattle.amqp.specs.declared.stop.SessionStopReason.{SessionStopReason}
@@ -43,6 +43,14 @@ pub record Model : Type 0 where
   pub vacancy : ℕ
   pub widest : ℕ
   pub stopped : Option SessionStopReason
+
+-- nothing waits, and nothing is stopped
+abbrev pub empty : (vacancy widest : ℕ) → Model
+empty vacancy widest = record { waiting = []; vacancy = vacancy; widest = widest; stopped = None }
+
+-- with this stop reason, and all else as it was
+abbrev pub stopped_by : SessionStopReason → Model → Model
+stopped_by reason m = record { waiting = m.waiting; vacancy = m.vacancy; widest = m.widest; stopped = Some reason }
 
 abbrev pub fault_at : Model → (width count : ℕ) → Option SinkError
 fault_at m width count = fault_of m.stopped m.widest m.vacancy width count

@@ -1,11 +1,12 @@
 -- What becomes of a peer's pairs where their tags are legal, and there is room for all of them.
 use Rattle.std.proofs.Common.{◌≡◌, ℕ, zero, suc, ◌+◌, ◌<◌, ◌≤◌, Bool, true, false, cond, ◌&&◌, ◌||◌, List, [], ◌∷◌, length, get_or, take, fold, is_some, Some, None, Option, refl, sym, ap, ◌∙◌, arith}
 use Rattle.std.specs.List.{find}
-use Rattle.std.proofs.lemmas.List.{take_at, take_all, map_more, get_or-map, get_or-take, length-map, length-take-le}
+use Rattle.std.proofs.lemmas.List.{take_all, map_more, get_or-map, get_or-take, length-map, length-take-le}
 use Rattle.std.proofs.lemmas.List.Sums.{fold_more}
 use Rattle.std.proofs.lemmas.Bool.{le-leb, lt-ltb, false_from_ne_true}
 use Rattle.amqp.specs.declared.state.DeliveryState.{DeliveryState}
-use Rattle.amqp.specs.Tags.{tag_from}
+use Rattle.amqp.specs.Tags.{tag_bytes, tag_from}
+use Rattle.amqp.proofs.Tags.{bytes_from}
 use Rattle.unsettled.specs.declared.slot.Slot.{Slot}
 use Rattle.unsettled.specs.declared.peer.PeerDelivery.{PeerDelivery}
 use Rattle.unsettled.specs.Tables.{same_tag, has_tag, entry_of}
@@ -16,13 +17,8 @@ use Rattle.unsettled.proofs.Same.{same_tag_decides}
 abbrev slot_of : PeerDelivery → Slot (Option DeliveryState)
 slot_of p = record { tag = tag_from (bytes_of p); entry = p.state }
 
-one_tag : (s t : List ℕ) → tag_from s ≡ tag_from t → s ≡ t
-unfolding tag_from
-one_tag s t e =
-    sym (take_at s _ (length s) refl)
-    ∙ ap (take (length s)) (ap (λ x. x.bytes) e)
-    ∙ ap (λ n. take n (tag_from t).bytes) (ap (λ x. x.len) e)
-    ∙ take_at t _ (length t) refl
+one_tag : (s t : List ℕ) → length s ≤ 32 → length t ≤ 32 → tag_from s ≡ tag_from t → s ≡ t
+one_tag s t h k e = sym (bytes_from s h) ∙ ap tag_bytes e ∙ bytes_from t k
 
 none_found : {X : Type 0} (p : X → Bool) (xs : List X) → ((k : ℕ) (d : X) → k < length xs → p (get_or xs k d) ≡ false) → find p xs ≡ None
 none_found p [] h = refl
@@ -38,7 +34,7 @@ new_tag ps i h lt =
     let m : k < i = omega (arith, l, length-map (take i ps) slot_of, n) in
     let e = get_or-map slot_of (take i ps) k blank d (omega (arith, m, n)) ∙ ap slot_of (get_or-take i ps k blank m) in
     ap (λ x. same_tag x.tag (tag_from (tag_at ps i))) e
-    ∙ false_from_ne_true _ (λ t. h.apart k i m lt (one_tag _ _ ((same_tag_decides (tag_from (tag_at ps k)) (tag_from (tag_at ps i))).0 t))))
+    ∙ false_from_ne_true _ (λ t. h.apart k i m lt (one_tag _ _ (h.short k (omega arith)) (h.short i lt) ((same_tag_decides (tag_from (tag_at ps k)) (tag_from (tag_at ps i))).0 t))))
 
 joins : {X Y : Type 0} (short free : Bool) (o : Option X) (over next xs : Y) → short ≡ true → o ≡ None → free ≡ true → cond (short && (is_some o || free)) (cond (is_some o) over next) xs ≡ next
 joins short free o over next xs e f g = rw (e, f, g)

@@ -1,7 +1,7 @@
 // Putting frames, which a stop ends.
 ghost use Rattle.std.specs.Prelude.{◌≡◌, ◌<◌, ◌≤◌, [], ◌∷◌, length, vec_len};
-ghost use Rattle.sink.specs.Frames.{waiting_of, Grown};
-ghost use Rattle.queue.specs.Queues.{model_of, stopped_by};
+ghost use Rattle.sink.specs.Frames.{waiting_of, stopped_by, Grown};
+ghost use Rattle.queue.specs.Queues.{model_of};
 
 use super::Queue;
 use crate::place::Place;

@@ -1,6 +1,7 @@
 // Opening a dock: memory, and a link that is attached at both ends.
 ghost use Rattle.std.specs.Prelude.{◌≡◌, ℕ, IfOk, IsOkAnd};
-ghost use Rattle.queue.specs.Queues.{model_of, empty};
+ghost use Rattle.queue.specs.Queues.{model_of};
+ghost use Rattle.sink.specs.Frames.{empty};
 ghost use Rattle.link.specs.Views.{Rooms, fresh, made};
 ghost use Rattle.runs.specs.Safe.{Begun};
 ghost use Rattle.sender.specs.Views.{rooms_of};
@@ -8,6 +9,7 @@ ghost use Rattle.shipping.specs.Openings.{rooms_in, seats_in, settings_for, Answ
 
 use super::Dock;
 use crate::archive::Archive;
+use crate::outbox::Outbox;
 use crate::report::{OutOfMemory, ShipError};
 use amqp::error::MakeError;
 use amqp::mode::{ReceiverSettleMode, SenderSettleMode};
@@ -30,7 +32,7 @@ const LONGEST_FRAME: usize = 65535;
 // Each ticket is collected before the next message is sent, so that few entries are in use at a time.
 const ENTRIES: usize = 16;
 
-// How many frames the queue holds at first.
+// How many frames the sink has room for at first.
 const PLACES: usize = 16;
 
 // What a link is lent.
@@ -96,11 +98,6 @@ pub fn empty_queue(heap: Global, places: usize, widest: usize) -> Result<Queue, 
     Queue::new(places, bytes, widest).map_err(|_| OutOfMemory)
 }
 
-// Memory to read payloads to.
-fn reader(heap: Global, widest: usize) -> Result<Vec<u8>, OutOfMemory> {
-    Ok(vec![in heap; 0u8; widest]?)
-}
-
 // How a link goes that sends unsettled, in frames of this size: the receiver settles first, and no message is too long.
 pub fn settings_for(max_frame_size: usize) -> Settings
     ensures { result ≡ settings_for max_frame_size }
@@ -149,14 +146,14 @@ fn attached(memory: &mut LinkMemory, max_frame_size: usize) -> Result<SenderLink
     Ok(link)
 }
 
-impl<'a> Dock<'a> {
+impl<'a, S: Outbox> Dock<'a, S> {
     // A dock whose link is attached and has this credit. A frame longer than the longest is cut to that.
     pub fn open(
         heap: Global,
         memory: &'a mut LinkMemory,
         frame: u32,
         credit: u32,
-    ) -> Result<Dock<'a>, ShipError>
+    ) -> Result<Dock<'a, S>, ShipError>
         ensures { Opening memory.old frame credit result }
     {
         let frame = (frame as usize).min(LONGEST_FRAME);
@@ -164,8 +161,8 @@ impl<'a> Dock<'a> {
         let mut dock = Dock {
             heap,
             link: attached(memory, frame)?,
-            queue: empty_queue(heap, PLACES, widest)?,
-            out: reader(heap, widest)?,
+            sink: S::with_places(heap, PLACES, widest)?,
+            log: Vec::new(heap),
             archive: Archive::new(heap),
             credit,
         };

@@ -1,16 +1,16 @@
-// Sending a message, however little the queue holds.
-ghost use Rattle.std.specs.Prelude.{◌≡◌, ◌≢◌, length, [], Err, OnOk};
+// Sending a message, however little the sink holds.
+ghost use Rattle.std.specs.Prelude.{◌≡◌, ◌≢◌, length, [], Err, IfOk, OnOk};
 ghost use Rattle.link.specs.Calls.{Flow, step};
 ghost use Rattle.link.specs.Sending.{carrier};
 ghost use Rattle.sender.specs.Sends.{Sends};
 ghost use Rattle.shipping.specs.declared.report.ShipError.TheVariants.{NoMemory};
 ghost use Rattle.shipping.specs.Archives.{took_all, granting};
-ghost use Rattle.shipping.specs.Docks.{roomier, plain, Sending, SendingAgain};
+ghost use Rattle.shipping.specs.Docks.{Roomier, plain, Sending, SendingAgain};
+ghost use Rattle.shipping.specs.Unloading.{Emptied};
 
 use super::Dock;
-use super::opening::empty_queue;
+use crate::outbox::Outbox;
 use crate::report::{OutOfMemory, ShipError};
-use crate::unload::unload;
 use amqp::error::SendError;
 use codec::encoder::Encoder;
 use link::delivery::Sendable;
@@ -31,7 +31,7 @@ pub fn plain(len: usize) -> Sendable
     }
 }
 
-impl<'a> Dock<'a> {
+impl<'a, S: Outbox> Dock<'a, S> {
     // The archive grants its credit anew, from what it has seen.
     pub(super) fn grant(&mut self)
         ensures link { self.new.link ≡ step self.old.link (Flow (granting self.old.credit self.old.archive)) }
@@ -42,21 +42,28 @@ impl<'a> Dock<'a> {
         let _ = self.link.flow(&flow);
     }
 
-    // Reads the queue out, or makes it larger where nothing waits in it.
+    // The archive reads all that waits: how many frames there were.
+    pub(super) fn unload(&mut self) -> Result<usize, OutOfMemory>
+        ensures link { self.new.link ≡ self.old.link }
+        ensures queue { OnOk result (Emptied self.old.queue self.new.queue) }
+        ensures archive { OnOk result (self.new.archive ≡ took_all self.old.queue.waiting self.old.archive) }
+        ensures count { IfOk result (λ n. n ≡ length self.old.queue.waiting) }
+        ensures credit { self.new.credit ≡ self.old.credit }
+    {
+        self.sink
+            .unload(self.heap, &mut self.log, &mut self.archive)
+    }
+
+    // Reads the sink out, or makes it larger where nothing waits in it.
     fn make_room(&mut self) -> Result<(), OutOfMemory>
         ensures link { self.new.link ≡ self.old.link }
-        ensures queue { OnOk result (self.new.queue ≡ roomier self.old.queue) }
+        ensures queue { OnOk result (Roomier self.old.queue self.new.queue) }
         ensures archive { OnOk result (self.new.archive ≡ took_all self.old.queue.waiting self.old.archive) }
         ensures credit { self.new.credit ≡ self.old.credit }
     {
-        let before = self.queue.vacancy();
-        unload(&mut self.queue, &mut self.out, &mut self.archive)?;
-        if self.queue.vacancy() == before {
-            self.queue = empty_queue(
-                self.heap,
-                before.saturating_mul(2).max(1),
-                self.queue.widest(),
-            )?;
+        if self.unload()? == 0 {
+            let places = self.sink.vacancy().saturating_mul(2).max(1);
+            self.sink = S::with_places(self.heap, places, self.sink.widest())?;
         }
         Ok(())
     }
@@ -67,10 +74,10 @@ impl<'a> Dock<'a> {
         ensures credit { self.new.credit ≡ self.old.credit }
     {
         self.link
-            .send(&mut self.queue, encoder, message, &plain(message.len()))
+            .send(&mut self.sink, encoder, message, &plain(message.len()))
     }
 
-    // Tries until the queue has room for all frames of the message.
+    // Tries until the sink has room for all frames of the message.
     fn send_in_room<E: Encoder>(
         &mut self,
         encoder: &E,

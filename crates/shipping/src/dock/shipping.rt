@@ -2,29 +2,28 @@
 ghost use Rattle.std.specs.Prelude.{◌≡◌, length, IfOk, OnOk};
 ghost use Rattle.shipping.specs.Archives.{took_all};
 ghost use Rattle.shipping.specs.Docks.{Answered, Settling, AtRest, Shipping, ShippingFile};
-ghost use Rattle.shipping.specs.Unloading.{emptied};
+ghost use Rattle.shipping.specs.Unloading.{Emptied};
 
 use super::Dock;
 use crate::message::data_section;
+use crate::outbox::Outbox;
 use crate::report::{OutOfMemory, ShipError, Shipment};
-use crate::unload::unload;
 use codec::encoder::Encoder;
 use sender::ticket::{Settlement, Ticket};
-use sink::sink::Sink;
+use std::mem;
 
-impl<'a> Dock<'a> {
+impl<'a, S: Outbox> Dock<'a, S> {
     // The archive reads what waits, and answers for the message that it makes: how many frames there were.
     fn take_in(&mut self, message: &[u8]) -> Result<usize, OutOfMemory>
-        ensures queue { IfOk result (λ n. (self.new.queue ≡ emptied self.old.queue) × (n ≡ length self.old.queue.waiting)) }
+        ensures queue { IfOk result (λ n. Emptied self.old.queue self.new.queue × (n ≡ length self.old.queue.waiting)) }
         ensures link { OnOk result (Answered (took_all self.old.queue.waiting self.old.archive) message.now self.old.link self.new.link) }
         ensures credit { self.new.credit ≡ self.old.credit }
     {
-        let before = self.queue.vacancy();
-        unload(&mut self.queue, &mut self.out, &mut self.archive)?;
+        let frames = self.unload()?;
         if let Some((tag, state)) = self.archive.answer(message) {
             let _ = self.link.disposition(&tag, true, Some(state));
         }
-        Ok(self.queue.vacancy().saturating_sub(before))
+        Ok(frames)
     }
 
     // The ticket is collected on every way out.
@@ -63,5 +62,12 @@ impl<'a> Dock<'a> {
     {
         let message = data_section(self.heap, file)?;
         self.ship_message(encoder, message.as_slice())
+    }
+
+    // What was logged since it was last taken.
+    pub fn take_log(&mut self) -> Vec<u8>
+        ensures { self.new ≡ self.old }
+    {
+        mem::replace(&mut self.log, Vec::new(self.heap))
     }
 }

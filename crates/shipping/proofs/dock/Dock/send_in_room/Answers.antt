@@ -21,12 +21,12 @@ loop-settlement-preserved g c =
     let t = c.if-eq.ensures in
     let full : c.in-Err.e ≡ SinkFull = search (rules, tests) in
     let running = ap (λ (m : Model). m.stopped) kept.1 ∙ was_running _ _ _ _ _ _ _ full c.in-Err.ensures.sends in
-    let room = room_made c.try_send.new.self.queue running in (
+    let room = room_made c.try_send.new.self.queue _ running after.queue in (
       after.link ∙ kept.0 ∙ c.loop-settlement.invariant.0,
       after.credit ∙ c.in-Err.ensures.credit ∙ c.loop-settlement.invariant.1,
-      λ e. ap (λ (m : Model). m.waiting) after.queue ∙ roomier_none c.try_send.new.self.queue,
-      ap (λ (m : Model). m.widest) after.queue ∙ room.widest ∙ ap (λ (m : Model). m.widest) kept.1 ∙ before.3,
-      ap (λ (m : Model). m.stopped) after.queue ∙ room.stopped ∙ ap (λ (m : Model). m.stopped) kept.1 ∙ before.4,
+      λ e. roomier_none c.try_send.new.self.queue _ after.queue,
+      room.widest ∙ ap (λ (m : Model). m.widest) kept.1 ∙ before.3,
+      room.stopped ∙ ap (λ (m : Model). m.stopped) kept.1 ∙ before.4,
       λ e. after.archive ∙ ap (λ (fs : List Frame). took_all fs c.try_send.new.self.archive) (ap (λ (m : Model). m.waiting) kept.1 ∙ before.2 e) ∙ c.in-Err.ensures.archive ∙ before.5 e,
     )
 

@@ -1,0 +1,7 @@
+// A sink of records laid end to end in memory that is handed in, and the reader of such records.
+#![tactic(auto)]
+
+mod kind;
+mod memory;
+pub mod record;
+pub mod spool;
