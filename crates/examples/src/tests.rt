@@ -141,8 +141,7 @@ fn same_frames_over_queue_and_spool(rt: HostRuntime) -> Result<(), Fail> {
     let pool = vec![in heap; 7; 1500]?;
     let lengths = [0, 1, 487, 488, 1500];
     let mut queue = empty_queue(heap, 16, 512).map_err(|_| Fail::new("no queue"))?;
-    let mut spool =
-        Spool::new(vec![in heap; 0; 16384]?, 512).map_err(|_| Fail::new("no spool"))?;
+    let mut spool = Spool::new(vec![in heap; 0; 16384]?, 512).map_err(|_| Fail::new("no spool"))?;
     send_all(heap, &mut queue, pool.as_slice(), &lengths)?;
     send_all(heap, &mut spool, pool.as_slice(), &lengths)?;
     let mut bytes = vec![in heap; 0; 16384]?;

@@ -1,8 +1,7 @@
 -- What a queue means, and what making one answers.
-use Rattle.std.specs.Prelude.{◌≡◌, ℕ, ◌-◌, [], Some, None, Ok, Err, vec_items, vec_len, Result}
+use Rattle.std.specs.Prelude.{◌≡◌, ℕ, ◌-◌, Ok, Err, vec_items, vec_len, Result}
 use Rattle.std.specs.Global.{Vec}
 use Rattle.amqp.specs.declared.error.MakeError.TheVariants.{Sizes}
-use Rattle.amqp.specs.declared.stop.SessionStopReason.{SessionStopReason}
 use Rattle.sink.specs.Frames.{Model, empty}
 use Rattle.queue.specs.declared.place.Place.{Place}
 use Rattle.queue.specs.declared.queue.Queue.{Queue}

@@ -1,4 +1,4 @@
--- A send that finds no room, and how the queue gets it.
+-- A send that finds no room, and how the sink gets it.
 use Rattle.std.proofs.Common.{◌≡◌, ℕ, ◌+◌, ◌-◌, ◌*◌, ◌<◌, ◌≤◌, min, max, Bool, true, false, cond, not, eqb, List, [], ◌∷◌, ◌++◌, length, Some, None, Err, Option, sym, refl, ap, ◌∙◌, subst, div-le_self, arith}
 use Rattle.std.proofs.lemmas.Bool.{ltb-true, eqb-true, eqb-false}
 use Rattle.std.proofs.lemmas.Bool.Decides.{nat_tests}
@@ -147,7 +147,7 @@ fed v bytes msg s e w t t' full h r =
     let few : s.vacancy < count_of (length msg) (max 1 (share_for v c m)) = rw (all_of msg) at lack.0 in
     less_hungry (length msg) s t' (max 1 (share_for v c m)) (subst (λ (x : Model). Roomier x t') kept r) few lack.1
 
--- a stopped queue is refused for that, and not for want of room
+-- a stopped sink is refused for that, and not for want of room
 pub was_running : (v : View) (bytes : Header → List ℕ) (msg : List ℕ) (s : Model) (e : SendError) (w : View) (t : Model) → e ≡ send.SinkFull → Sends v (carrier bytes msg s) (plain (length msg)) (Err e) w t → s.stopped ≡ None
 was_running v bytes msg s e w t full h =
     let c = carrier bytes msg s in

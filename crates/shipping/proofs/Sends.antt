@@ -69,7 +69,7 @@ gone_later v v' bytes msg s s' r w t e k h =
     let g = subst (λ (x : View). Gone x bytes msg s' r w t) e (gone v' bytes msg s' r w t h) in
     record { answer = g.answer; link = g.link; tag = g.tag; whole = g.whole; frames = λ n. g.frames (k n) }
 
--- a send that was refused leaves the link and the queue as they were
+-- a send that was refused leaves the link and the sink as they were
 pub stayed : (v : View) (c : Carrier) (m : Sendable) (e : SendError) (w : View) (t : Model) → Sends v c m (Err e) w t → (w ≡ v) × (t ≡ c.sink)
 stayed v c m e w t h =
     let some = gated_err (send_refusal v c m) (sent_answer v m) e h.answer in (
@@ -86,7 +86,7 @@ unsent_later v v' bytes msg s s' e w t same room other h =
     let some = gated_err (send_refusal v' c m) (sent_answer v' m) e h.answer in (
       kept.0 ∙ same,
       record {
-        queue = record {
+        sink = record {
           widest = ap (λ (x : Model). x.widest) kept.1 ∙ room.widest;
           stopped = ap (λ (x : Model). x.stopped) kept.1 ∙ room.stopped;
           waiting = λ n. ap (λ (x : Model). x.waiting) kept.1 ∙ room.waiting n;
@@ -99,11 +99,11 @@ unsent_later v v' bytes msg s s' e w t same room other h =
 roomed_on : (s s' t : Model) → Roomed s s' → Roomed s' t → Roomed s t
 roomed_on s s' t a b = record { widest = b.widest ∙ a.widest; stopped = b.stopped ∙ a.stopped; waiting = λ n. b.waiting (a.waiting n) }
 
--- what holds of a queue with other room holds of the queue before
+-- what holds of a sink with other room holds of the sink before
 pub sending_later : (u : View) (bytes : Header → List ℕ) (msg : List ℕ) (s s' : Model) (r : Result Settlement ShipError) (w : View) (t : Model) → Roomed s s' → Sending u bytes msg s' r w t → Sending u bytes msg s r w t
 sending_later u bytes msg s s' (Ok x) w t k h = record { answer = h.answer; link = h.link; tag = h.tag; whole = h.whole; frames = λ n. h.frames (k.waiting n) }
 sending_later u bytes msg s s' (Err (Refused e)) w t k h =
-    (h.0, record { queue = roomed_on s s' t k h.1.queue; refusal = h.1.refusal; room = h.1.room })
+    (h.0, record { sink = roomed_on s s' t k h.1.sink; refusal = h.1.refusal; room = h.1.room })
 sending_later u bytes msg s s' (Err NoMemory) w t k h = tt
 sending_later u bytes msg s s' (Err Link) w t k h = h
 
@@ -132,4 +132,4 @@ first_refused v credit a bytes msg s e w t other h = first_try v credit a bytes 
 -- a refusal left the link as it was
 pub kept_back : (v : View) (bytes : Header → List ℕ) (msg : List ℕ) (s : Model) (e : ShipError) (x : SendError) (w : View) (t : Model) → e ≡ Refused x → Sending v bytes msg s (Err e) w t → (w ≡ v) × Roomed s t
 kept_back v bytes msg s e x w t is h =
-    let k = subst (λ (y : ShipError). Sending v bytes msg s (Err y) w t) is h in (k.0, k.1.queue)
+    let k = subst (λ (y : ShipError). Sending v bytes msg s (Err y) w t) is h in (k.0, k.1.sink)

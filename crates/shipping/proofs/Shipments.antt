@@ -83,7 +83,7 @@ from_rest u credit b bytes msg s t t' x a (Ok p) w w' rest gone h =
         ticket = h.1 ∙ numbered u (length msg) x rest.mode gone.answer;
         frames = h.2 ∙ gone.frames rest.waiting;
       },
-      rests_again u s (length msg) w' t t' rest link h.0.queue.waiting,
+      rests_again u s (length msg) w' t t' rest link h.0.sink.waiting,
     )
 from_rest u credit b bytes msg s t t' x a (Err (Refused e)) w w' rest gone h = absurd h
 from_rest u credit b bytes msg s t t' x a (Err NoMemory) w w' rest gone h = tt
@@ -118,7 +118,7 @@ unshipped v credit a bytes msg s (Refused e) w t rest h =
         anew = λ n. same ∙ h.anew (ap (λ (x : SendError). Err (Refused x)) n) ∙ ap (regranted v credit) seen;
         unsent = subst (λ (x : View). Unsent x bytes msg s e t) (sym same) h.sending.1;
       },
-      record { mode = still.mode; table = still.table; spare = still.spare; seats = still.seats; waiting = h.sending.1.queue.waiting rest.waiting },
+      record { mode = still.mode; table = still.table; spare = still.spare; seats = still.seats; waiting = h.sending.1.sink.waiting rest.waiting },
     )
 unshipped v credit a bytes msg s NoMemory w t rest h = tt
 unshipped v credit a bytes msg s Link w t rest h = absurd h.sending

@@ -1,4 +1,4 @@
--- A dock: its link and its queue, how a message goes out by them, and what becomes of it.
+-- A dock: its link and its sink, how a message goes out by them, and what becomes of it.
 use Rattle.std.specs.Prelude.{◌≡◌, ℕ, suc, ◌*◌, ◌^◌, ◌≤◌, ◌⊎◌, min, max, true, false, List, [], length, replicate, Some, None, Ok, Err, Option, Result, ◌≢◌}
 use Rattle.amqp.specs.declared.error.SendError.{SendError}
 use Rattle.amqp.specs.declared.error.SendError.TheVariants.{NoCredit, OutsidePool, SinkFull}
@@ -31,11 +31,11 @@ use Rattle.shipping.specs.Unloading.{Emptied}
 -- what is known of a dock: its link, the frames that wait, what its archive has taken in, and the credit granted at a time
 pub record Docked : Type 0 where
   pub link : View
-  pub queue : Model
+  pub sink : Model
   pub archive : Intake
   pub credit : ℕ
 
--- ---- room in the queue
+-- ---- room in the sink
 
 -- twice as many places, and at least one, as far as a count of places goes
 abbrev pub doubled : ℕ → ℕ
@@ -62,24 +62,24 @@ plain len = record { place = record { start = 0; len = len }; message_format = 0
 abbrev pub frames_for : View → (Header → List ℕ) → List ℕ → ℕ
 frames_for v bytes msg = frames_needed (share_for v (carrier bytes msg (empty 0 0)) (plain (length msg))) msg
 
--- from link `v` and queue `s`, a message was sent: the link is `w`, and the frames wait in the queue `t`
+-- from link `v` and sink `s`, a message was sent: the link is `w`, and the frames wait in the sink `t`
 pub record Gone (v : View) (bytes : Header → List ℕ) (msg : List ℕ) (s : Model) (r : Settlement) (w : View) (t : Model) : Type 0 where
   pub answer : answered (Ok r) ≡ Ok (sent_answer v (plain (length msg)))
   pub link : w ≡ landed v (sent v (plain (length msg)))
-  -- who reads the queue has the message, and its delivery's tag
+  -- who reads the sink has the message, and its delivery's tag
   pub tag : (a : Intake) → (took_all t.waiting a).tag ≡ Some (next_tag v)
   pub whole : (a : Intake) → (took_all t.waiting a).joined ≡ msg
   pub frames : s.waiting ≡ [] → length t.waiting ≡ frames_for v bytes msg
 
--- the queue `t` is `s` with other room: as wide, stopped or not as before, and nothing waits where nothing did
+-- the sink `t` is `s` with other room: as wide, stopped or not as before, and nothing waits where nothing did
 pub record Roomed (s t : Model) : Type 0 where
   pub widest : t.widest ≡ s.widest
   pub stopped : t.stopped ≡ s.stopped
   pub waiting : s.waiting ≡ [] → t.waiting ≡ []
 
--- why a message did not go out: the link `w` and the queue `t`, which was `s`, refuse it, and never for want of room
+-- why a message did not go out: the link `w` and the sink `t`, which was `s`, refuse it, and never for want of room
 pub record Unsent (w : View) (bytes : Header → List ℕ) (msg : List ℕ) (s : Model) (e : SendError) (t : Model) : Type 0 where
-  pub queue : Roomed s t
+  pub sink : Roomed s t
   pub refusal : send_refusal w (carrier bytes msg t) (plain (length msg)) ≡ Some e
   pub room : e ≢ SinkFull
 
@@ -119,11 +119,11 @@ pub record Answered (a : Intake) (msg : List ℕ) (v w : View) : Type 0 where
   pub known : (t : DeliveryTag) → a.tag ≡ Some t → (s : DeliveryState) × Judged a.joined msg s × (w ≡ step v (Disposition t true (Some s)))
   pub unknown : a.tag ≡ None → w ≡ v
 
--- the archive has read the queue and answered, and then a ticket was collected
+-- the archive has read the sink and answered, and then a ticket was collected
 pub record Settled (v : View) (s : Model) (a : Intake) (msg : List ℕ) (number : ℕ) (told : Result (Option Outcome) TicketError) (w : View) (t : Model) : Type 0 where
   pub between : View
   pub answer : Answered (took_all s.waiting a) msg v between
-  pub queue : Emptied s t
+  pub sink : Emptied s t
   pub ticket : told ≡ looked between number
   pub link : w ≡ step between (Collect number)
 
@@ -150,8 +150,8 @@ pub record Shipped (v : View) (bytes : Header → List ℕ) (msg : List ℕ) (s 
   pub ticket : s.ticket ≡ next_number v
   pub frames : s.frames ≡ frames_for v bytes msg
 
--- from link `v` and queue `s`, whose archive has taken in `a` and grants this credit, a message was refused: the link `w` and the queue
--- `t` that are left refuse it so. They are as before, but that the link may have been granted credit anew, and the queue may have other room
+-- from link `v` and sink `s`, whose archive has taken in `a` and grants this credit, a message was refused: the link `w` and the sink
+-- `t` that are left refuse it so. They are as before, but that the link may have been granted credit anew, and the sink may have other room
 pub record TurnedAway (v : View) (credit : ℕ) (a : Intake) (bytes : Header → List ℕ) (msg : List ℕ) (s : Model) (e : SendError) (w : View) (t : Model) : Type 0 where
   pub alike : Alike v w
   pub granted : (w ≡ v) ⊎ (w ≡ regranted v credit a)
@@ -159,7 +159,7 @@ pub record TurnedAway (v : View) (credit : ℕ) (a : Intake) (bytes : Header →
   pub anew : e ≡ NoCredit → w ≡ regranted v credit a
   pub unsent : Unsent w bytes msg s e t
 
--- what shipping a message comes to: all is at rest again, and a refusal is the link's or the queue's
+-- what shipping a message comes to: all is at rest again, and a refusal is the link's or the sink's
 abbrev pub Shipping : View → (credit : ℕ) → Intake → (Header → List ℕ) → (msg : List ℕ) → Model → Result Shipment ShipError → View → Model → Type 0
 Shipping v credit a bytes msg s (Ok p) w t = Shipped v bytes msg p × AtRest w t
 Shipping v credit a bytes msg s (Err (Refused e)) w t = TurnedAway v credit a bytes msg s e w t × AtRest w t
@@ -171,7 +171,7 @@ pub record TooLong (v : View) (file : List ℕ) (s : Model) (r : Result Shipment
   pub long : 2 ^ 32 ≤ length file
   pub result : r ≡ Err (Refused OutsidePool)
   pub link : w ≡ v
-  pub queue : t ≡ s
+  pub sink : t ≡ s
 
 -- what shipping a file comes to: what shipping its section does, unless it is too long for one
 abbrev pub ShippingFile : View → (credit : ℕ) → Intake → (Header → List ℕ) → (file : List ℕ) → Model → Result Shipment ShipError → View → Model → Type 0

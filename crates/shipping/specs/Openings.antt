@@ -61,8 +61,8 @@ frame_cap frame = min frame 65535
 -- a dock at rest, with this frame size and credit
 pub record Open (m : LinkMemory) (frame credit : ℕ) (d : Docked) : Type 0 where
   pub link : d.link ≡ opened (frame_cap frame) credit (rooms_in m) (seats_in m)
-  pub queue : d.queue ≡ sinks.empty 16 (max (frame_cap frame) 1)
-  pub rest : AtRest d.link d.queue
+  pub sink : d.sink ≡ sinks.empty 16 (max (frame_cap frame) 1)
+  pub rest : AtRest d.link d.sink
 
 -- the dock, or an error for want of memory, or where the sizes of what the link is lent do not fit
 abbrev pub Opening : LinkMemory → (frame credit : ℕ) → Result Docked ShipError → Type 0

@@ -27,5 +27,5 @@ impl<'a, S: Outbox> Model for Dock<'a, S> {
 
     ghost Value = { Docked };
 
-    ghost view = { λ d. record { link = d.link; queue = S.Sink.model d.sink; archive = d.archive; credit = d.credit } };
+    ghost view = { λ d. record { link = d.link; sink = S.Sink.model d.sink; archive = d.archive; credit = d.credit } };
 }

@@ -2,6 +2,7 @@
 #![tactic(auto)]
 
 mod kind;
+mod layout;
 mod memory;
 pub mod record;
 pub mod spool;

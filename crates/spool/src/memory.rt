@@ -2,20 +2,11 @@
 ghost use Rattle.std.specs.Prelude.{◌≤◌, vec_len};
 
 use crate::kind::code_of;
+use crate::layout::{FIELDS, HEADER};
 use amqp::error::MemoryError;
 use codec::compact::Compact;
 use codec::encoder::Encoder;
 use sink::frame::Frame;
-
-// The longest compact header.
-const HEADER: usize = 255;
-// What stands before a record's header: its length, kind, handle and header's length.
-const FRONT: usize = 12;
-// What a record's length does not count of the front: itself.
-const LENGTH: usize = 4;
-
-// The longest record, but for its payload.
-pub(crate) const MOST: usize = FRONT + HEADER;
 
 #[derive(Drop)]
 pub(crate) struct Memory {
@@ -81,7 +72,7 @@ impl Memory {
     {
         let mut header = [0; HEADER];
         let size = Compact.write(&frame.header, &mut header).unwrap();
-        let rest = FRONT - LENGTH + size + frame.payload.len();
+        let rest = FIELDS + size + frame.payload.len();
         self.append(&(rest as u32).to_le_bytes());
         self.append(&code_of(frame.kind).to_le_bytes());
         self.append(&frame.handle.to_le_bytes());

@@ -6,16 +6,12 @@ ghost use Rattle.spool.specs.Exact.{Exact};
 ghost use Rattle.spool.specs.Told.{told, spelled};
 
 use crate::kind::kind_of;
+use crate::layout::{FIELDS, LENGTH};
 use amqp::header::Header;
 use codec::compact::Compact;
 use codec::error::ReadError;
 use reader::reader::Reader;
 use sink::frame::Frame;
-
-// The length that a record tells is that of the bytes past its own four.
-const LENGTH: usize = 4;
-// What stands between that length and the header: kind, handle and the header's length.
-const FIELDS: usize = 8;
 
 // So many bytes from a place on.
 fn part(bytes: &[u8], at: usize, size: usize) -> Result<&[u8], ReadError>

@@ -4,9 +4,8 @@ use anyhow::Result;
 use codec::error::ReadError;
 use sink::frame::Frame;
 use spool::record::read;
-use std::fs;
 use std::io::{BufWriter, Write};
-use std::{fmt, io};
+use std::{fmt, fs, io};
 
 // How many records were read, and how long their payloads are together.
 #[derive(Clone, Copy, Default)]

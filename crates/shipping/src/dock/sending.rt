@@ -35,7 +35,7 @@ impl<'a, S: Outbox> Dock<'a, S> {
     // The archive grants its credit anew, from what it has seen.
     pub(super) fn grant(&mut self)
         ensures link { self.new.link ≡ step self.old.link (Flow (granting self.old.credit self.old.archive)) }
-        ensures queue { self.new.queue ≡ self.old.queue }
+        ensures sink { self.new.sink ≡ self.old.sink }
         ensures credit { self.new.credit ≡ self.old.credit }
     {
         let flow = self.archive.grant(self.credit);
@@ -45,9 +45,9 @@ impl<'a, S: Outbox> Dock<'a, S> {
     // The archive reads all that waits: how many frames there were.
     pub(super) fn unload(&mut self) -> Result<usize, OutOfMemory>
         ensures link { self.new.link ≡ self.old.link }
-        ensures queue { OnOk result (Emptied self.old.queue self.new.queue) }
-        ensures archive { OnOk result (self.new.archive ≡ took_all self.old.queue.waiting self.old.archive) }
-        ensures count { IfOk result (λ n. n ≡ length self.old.queue.waiting) }
+        ensures sink { OnOk result (Emptied self.old.sink self.new.sink) }
+        ensures archive { OnOk result (self.new.archive ≡ took_all self.old.sink.waiting self.old.archive) }
+        ensures count { IfOk result (λ n. n ≡ length self.old.sink.waiting) }
         ensures credit { self.new.credit ≡ self.old.credit }
     {
         self.sink
@@ -57,8 +57,8 @@ impl<'a, S: Outbox> Dock<'a, S> {
     // Reads the sink out, or makes it larger where nothing waits in it.
     fn make_room(&mut self) -> Result<(), OutOfMemory>
         ensures link { self.new.link ≡ self.old.link }
-        ensures queue { OnOk result (Roomier self.old.queue self.new.queue) }
-        ensures archive { OnOk result (self.new.archive ≡ took_all self.old.queue.waiting self.old.archive) }
+        ensures sink { OnOk result (Roomier self.old.sink self.new.sink) }
+        ensures archive { OnOk result (self.new.archive ≡ took_all self.old.sink.waiting self.old.archive) }
         ensures credit { self.new.credit ≡ self.old.credit }
     {
         if self.unload()? == 0 {
@@ -69,7 +69,7 @@ impl<'a, S: Outbox> Dock<'a, S> {
     }
 
     fn try_send<E: Encoder>(&mut self, encoder: &E, message: &[u8]) -> Result<Settlement, SendError>
-        ensures sends { Sends self.old.link (carrier (E.bytes encoder.now) message.now self.old.queue) (plain (length message.now)) result self.new.link self.new.queue }
+        ensures sends { Sends self.old.link (carrier (E.bytes encoder.now) message.now self.old.sink) (plain (length message.now)) result self.new.link self.new.sink }
         ensures archive { self.new.archive ≡ self.old.archive }
         ensures credit { self.new.credit ≡ self.old.credit }
     {
@@ -83,8 +83,8 @@ impl<'a, S: Outbox> Dock<'a, S> {
         encoder: &E,
         message: &[u8],
     ) -> Result<Settlement, ShipError>
-        ensures sends { Sending self.old.link (E.bytes encoder.now) message.now self.old.queue result self.new.link self.new.queue }
-        ensures archive { self.old.queue.waiting ≡ [] → result ≢ Err NoMemory → self.new.archive ≡ self.old.archive }
+        ensures sends { Sending self.old.link (E.bytes encoder.now) message.now self.old.sink result self.new.link self.new.sink }
+        ensures archive { self.old.sink.waiting ≡ [] → result ≢ Err NoMemory → self.new.archive ≡ self.old.archive }
         ensures credit { self.new.credit ≡ self.old.credit }
     {
         loop {
@@ -104,7 +104,7 @@ impl<'a, S: Outbox> Dock<'a, S> {
         encoder: &E,
         message: &[u8],
     ) -> Result<Settlement, ShipError>
-        ensures sends { SendingAgain self.old.link self.old.credit self.old.archive (E.bytes encoder.now) message.now self.old.queue result self.new.link self.new.queue }
+        ensures sends { SendingAgain self.old.link self.old.credit self.old.archive (E.bytes encoder.now) message.now self.old.sink result self.new.link self.new.sink }
         ensures credit { self.new.credit ≡ self.old.credit }
     {
         match self.send_in_room(encoder, message) {

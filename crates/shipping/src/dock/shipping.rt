@@ -15,8 +15,8 @@ use std::mem;
 impl<'a, S: Outbox> Dock<'a, S> {
     // The archive reads what waits, and answers for the message that it makes: how many frames there were.
     fn take_in(&mut self, message: &[u8]) -> Result<usize, OutOfMemory>
-        ensures queue { IfOk result (λ n. Emptied self.old.queue self.new.queue × (n ≡ length self.old.queue.waiting)) }
-        ensures link { OnOk result (Answered (took_all self.old.queue.waiting self.old.archive) message.now self.old.link self.new.link) }
+        ensures sink { IfOk result (λ n. Emptied self.old.sink self.new.sink × (n ≡ length self.old.sink.waiting)) }
+        ensures link { OnOk result (Answered (took_all self.old.sink.waiting self.old.archive) message.now self.old.link self.new.link) }
         ensures credit { self.new.credit ≡ self.old.credit }
     {
         let frames = self.unload()?;
@@ -28,7 +28,7 @@ impl<'a, S: Outbox> Dock<'a, S> {
 
     // The ticket is collected on every way out.
     fn settle(&mut self, ticket: Ticket, message: &[u8]) -> Result<Shipment, ShipError>
-        ensures settles { Settling self.old.link self.old.queue self.old.archive message.now ticket.number result self.new.link self.new.queue }
+        ensures settles { Settling self.old.link self.old.sink self.old.archive message.now ticket.number result self.new.link self.new.sink }
         ensures credit { self.new.credit ≡ self.old.credit }
     {
         let number = ticket.number();
@@ -46,7 +46,7 @@ impl<'a, S: Outbox> Dock<'a, S> {
         encoder: &E,
         message: &[u8],
     ) -> Result<Shipment, ShipError>
-        ensures ships { AtRest self.old.link self.old.queue → Shipping self.old.link self.old.credit self.old.archive (E.bytes encoder.now) message.now self.old.queue result self.new.link self.new.queue }
+        ensures ships { AtRest self.old.link self.old.sink → Shipping self.old.link self.old.credit self.old.archive (E.bytes encoder.now) message.now self.old.sink result self.new.link self.new.sink }
         ensures credit { self.new.credit ≡ self.old.credit }
     {
         match self.send(encoder, message)? {
@@ -57,7 +57,7 @@ impl<'a, S: Outbox> Dock<'a, S> {
 
     // Ships a file. Where no delivery is under way before, it is accepted, or refused and nothing is under way.
     pub fn ship<E: Encoder>(&mut self, encoder: &E, file: &[u8]) -> Result<Shipment, ShipError>
-        ensures ships { AtRest self.old.link self.old.queue → ShippingFile self.old.link self.old.credit self.old.archive (E.bytes encoder.now) file.now self.old.queue result self.new.link self.new.queue }
+        ensures ships { AtRest self.old.link self.old.sink → ShippingFile self.old.link self.old.credit self.old.archive (E.bytes encoder.now) file.now self.old.sink result self.new.link self.new.sink }
         ensures credit { self.new.credit ≡ self.old.credit }
     {
         let message = data_section(self.heap, file)?;

@@ -4,7 +4,8 @@ ghost use Rattle.spool.specs.Records.{records};
 ghost use Rattle.spool.specs.Spools.{model_of, room_for, Made};
 
 use super::Spool;
-use crate::memory::{MOST, Memory};
+use crate::layout::MOST;
+use crate::memory::Memory;
 use amqp::error::MakeError;
 
 // What a payload's length may be at most.

@@ -4,7 +4,7 @@ ghost use Rattle.sink.specs.Frames.{waiting_of, stopped_by, Grown};
 ghost use Rattle.spool.specs.Spools.{model_of};
 
 use super::Spool;
-use crate::memory::MOST;
+use crate::layout::MOST;
 use amqp::error::SinkError;
 use amqp::stop::SessionStopReason;
 use sink::frame::Frame;
@@ -38,7 +38,7 @@ impl Sink for Spool {
     ghost model = { model_of };
 
     fn put(&mut self, frame: Frame<'_>) -> Result<(), SinkError> {
-        // `ask_room` asks the same, but a call of it here did not prove, since it leads back to this impl.
+        // `ask_room` asks the same, but a call of it here would lead back to this impl, as at the queue.
         if let Some(reason) = self.stop {
             return Err(SinkError::SessionStopped(reason));
         }

@@ -25,7 +25,7 @@ returns-in-Err-clause-sends g c =
     let tried = c.send_in_room.new.self in
     let t = c.if-eq.ensures in
     let short : refused.e ≡ Refused NoCredit = search (rules, tests) in
-    let kept = kept_back _ _ _ _ refused.e NoCredit tried.link tried.queue short refused.ensures.sends in
+    let kept = kept_back _ _ _ _ refused.e NoCredit tried.link tried.sink short refused.ensures.sends in
     let again = c.send_in_room-in-Err in
     let anew = c.grant.ensures.link ∙ ap (λ (v : View). step v (Flow (granting tried.credit tried.archive))) kept.0 ∙ ap (λ (n : ℕ). step c.args.self.now.link (Flow (granting n tried.archive))) refused.ensures.credit in
     record {
@@ -35,5 +35,5 @@ returns-in-Err-clause-sends g c =
       seen = λ e. refused.ensures.archive e (λ n. let z : ◌≡◌ {A = ℕ} 0 1 = cc in omega arith);
       granted = inr anew;
       anew = λ _. anew;
-      sending = sending_later c.grant.new.self.link (g.E.Encoder.bytes c.args.encoder.now) c.args.message.now c.args.self.now.queue c.grant.new.self.queue again.result again.new.self.link again.new.self.queue (subst (λ (m : Model). Roomed c.args.self.now.queue m) (sym c.grant.ensures.queue) kept.1) again.ensures.sends;
+      sending = sending_later c.grant.new.self.link (g.E.Encoder.bytes c.args.encoder.now) c.args.message.now c.args.self.now.sink c.grant.new.self.sink again.result again.new.self.link again.new.self.sink (subst (λ (m : Model). Roomed c.args.self.now.sink m) (sym c.grant.ensures.sink) kept.1) again.ensures.sends;
     }
