@@ -62,16 +62,16 @@ room v a pool n =
     grind (arith, nat_tests)
 
 -- one more is listed, or has ended
-pub listed_more : {X Y : Type 0} (f : X → List Y) (xs : List X) (i : ℕ) (d : X) → i < length xs → (ts ys zs : List Y) → ys ≡ ts ++ flat_map f (take i xs) → zs ≡ ys ++ f (get_or xs i d)
+pub listed_more : {X Y : Type 0} (f : X → List Y) (xs : List X) (i : ℕ) (x : X) → x ≡ get_or xs i x → i < length xs → (ts ys zs : List Y) → ys ≡ ts ++ flat_map f (take i xs) → zs ≡ ys ++ f x
     → zs ≡ ts ++ flat_map f (take (i + 1) xs)
-listed_more f xs i d lt ts ys zs h e =
-    e ∙ ap (λ l. l ++ f (get_or xs i d)) h ∙ append_assoc ts (flat_map f (take i xs)) (f (get_or xs i d))
-    ∙ ap (λ l. ts ++ l) (sym (more (flat_map f) (flat_map-append f) xs i d lt ∙ ap (λ l. flat_map f (take i xs) ++ l) (append-nil (f (get_or xs i d)))))
+listed_more f xs i x at lt ts ys zs h e =
+    e ∙ ap (λ l. l ++ f x) h ∙ append_assoc ts (flat_map f (take i xs)) (f x)
+    ∙ ap (λ l. ts ++ l) (sym (more (flat_map f) (flat_map-append f) xs i x at lt ∙ ap (λ l. flat_map f (take i xs) ++ l) (append-nil (f x))))
 
-pub ended_more : {X : Type 0} (f : X → List Ending) (xs : List X) (i : ℕ) (d : X) → i < length xs → (ss ts us : List Seat) → ts ≡ tell_all (flat_map f (take i xs)) ss → us ≡ tell_all (f (get_or xs i d)) ts
+pub ended_more : {X : Type 0} (f : X → List Ending) (xs : List X) (i : ℕ) (x : X) → x ≡ get_or xs i x → i < length xs → (ss ts us : List Seat) → ts ≡ tell_all (flat_map f (take i xs)) ss → us ≡ tell_all (f x) ts
     → us ≡ tell_all (flat_map f (take (i + 1) xs)) ss
-ended_more f xs i d lt ss ts us h e =
-    told_more (flat_map f) (flat_map-append f) xs i d lt ss ts us h (e ∙ ap (λ l. tell_all l ts) (sym (append-nil (f (get_or xs i d)))))
+ended_more f xs i x at lt ss ts us h e =
+    told_more (flat_map f) (flat_map-append f) xs i x at lt ss ts us h (e ∙ ap (λ l. tell_all l ts) (sym (append-nil (f x))))
 
 -- a delivery leaves one item at most
 one_item : (r : Resumption) (e : Entry) → length (item_for r e) ≤ 1

@@ -36,60 +36,61 @@ row_on false x e h = absurd (cc)
 pub listed_++ : (is js : List ResumingDelivery) → listed (is ++ js) ≡ listed is ++ listed js
 listed_++ is js = filter_map-append delivery_of is js
 
--- a list that is read through a function which keeps appends: the front, the element at i, the rest
-module _ {X Y : Type 0} (g : List X → List Y) (hom : (xs ys : List X) → g (xs ++ ys) ≡ g xs ++ g ys) (xs : List X) (i : ℕ) (d : X) (lt : i < length xs) where
-  pub more : g (take (i + 1) xs) ≡ g (take i xs) ++ g (get_or xs i d ∷ [])
-  more = ap g (take_more xs i d lt) ∙ hom (take i xs) (get_or xs i d ∷ [])
+-- a list that is read through a function which keeps appends: the front, the element x at i, the rest
+module _ {X Y : Type 0} (g : List X → List Y) (hom : (xs ys : List X) → g (xs ++ ys) ≡ g xs ++ g ys) (xs : List X) (i : ℕ) (x : X) (at : x ≡ get_or xs i x) (lt : i < length xs) where
+  pub more : g (take (i + 1) xs) ≡ g (take i xs) ++ g (x ∷ [])
+  more = ap g (take_more xs i x lt ∙ ap (λ y. take i xs ++ y ∷ []) (sym at)) ∙ hom (take i xs) (x ∷ [])
 
-  pub whole : g xs ≡ g (take i xs) ++ (g (get_or xs i d ∷ []) ++ g (drop (suc i) xs))
+  pub whole : g xs ≡ g (take i xs) ++ (g (x ∷ []) ++ g (drop (suc i) xs))
   whole =
       ap g (sym (take-append-drop i xs)) ∙ hom (take i xs) (drop i xs)
-      ∙ ap (λ ys. g (take i xs) ++ g ys) (drop-cons xs i d lt) ∙ ap (λ ys. g (take i xs) ++ ys) (hom (get_or xs i d ∷ []) (drop (suc i) xs))
+      ∙ ap (λ ys. g (take i xs) ++ g ys) (drop-cons xs i x lt ∙ ap (λ y. y ∷ drop (suc i) xs) (sym at))
+      ∙ ap (λ ys. g (take i xs) ++ ys) (hom (x ∷ []) (drop (suc i) xs))
 
-  pub room : (ts ys : List Y) (n : ℕ) → ys ≡ ts ++ g (take i xs) → length ts + length (g xs) ≤ n → length ys + length (g (get_or xs i d ∷ [])) ≤ n
+  pub room : (ts ys : List Y) (n : ℕ) → ys ≡ ts ++ g (take i xs) → length ts + length (g xs) ≤ n → length ys + length (g (x ∷ [])) ≤ n
   room ts ys n e h =
       omega (
         arith,
         ap length e,
         length-append ts (g (take i xs)),
         ap length whole,
-        length-append (g (take i xs)) (g (get_or xs i d ∷ []) ++ g (drop (suc i) xs)),
-        length-append (g (get_or xs i d ∷ [])) (g (drop (suc i) xs)),
+        length-append (g (take i xs)) (g (x ∷ []) ++ g (drop (suc i) xs)),
+        length-append (g (x ∷ [])) (g (drop (suc i) xs)),
       )
 
 -- one more is told
-pub told_more : {X : Type 0} (g : List X → List End) (hom : (xs ys : List X) → g (xs ++ ys) ≡ g xs ++ g ys) (xs : List X) (i : ℕ) (d : X) → i < length xs → (ss ts us : List Seat)
-    → ts ≡ tell_all (g (take i xs)) ss → us ≡ tell_all (g (get_or xs i d ∷ [])) ts → us ≡ tell_all (g (take (i + 1) xs)) ss
-told_more g hom xs i d lt ss ts us h e =
-    e ∙ ap (tell_all (g (get_or xs i d ∷ []))) h ∙ sym (tell_++ (g (take i xs)) (g (get_or xs i d ∷ [])) ss)
-    ∙ ap (λ es. tell_all es ss) (sym (more g hom xs i d lt))
+pub told_more : {X : Type 0} (g : List X → List End) (hom : (xs ys : List X) → g (xs ++ ys) ≡ g xs ++ g ys) (xs : List X) (i : ℕ) (x : X) → x ≡ get_or xs i x → i < length xs → (ss ts us : List Seat)
+    → ts ≡ tell_all (g (take i xs)) ss → us ≡ tell_all (g (x ∷ [])) ts → us ≡ tell_all (g (take (i + 1) xs)) ss
+told_more g hom xs i x at lt ss ts us h e =
+    e ∙ ap (tell_all (g (x ∷ []))) h ∙ sym (tell_++ (g (take i xs)) (g (x ∷ [])) ss)
+    ∙ ap (λ es. tell_all es ss) (sym (more g hom xs i x at lt))
 
 -- some of a list have joined the table
 pub record Joining (ts es ys : List Entry) : Type 0 where
   pub apart : clash es ts ≡ false
   pub there : ys ≡ ts ++ es
 
-module _ {X : Type 0} (g : List X → List Entry) (hom : (xs ys : List X) → g (xs ++ ys) ≡ g xs ++ g ys) (xs : List X) (i : ℕ) (d : X) (lt : i < length xs) (ts ys zs : List Entry) (h : Joining ts (g (take i xs)) ys) where
-  pub join_more : Joined ys (g (get_or xs i d ∷ [])) (Ok tt) zs → Joining ts (g (take (i + 1) xs)) zs
+module _ {X : Type 0} (g : List X → List Entry) (hom : (xs ys : List X) → g (xs ++ ys) ≡ g xs ++ g ys) (xs : List X) (i : ℕ) (x : X) (at : x ≡ get_or xs i x) (lt : i < length xs) (ts ys zs : List Entry) (h : Joining ts (g (take i xs)) ys) where
+  pub join_more : Joined ys (g (x ∷ [])) (Ok tt) zs → Joining ts (g (take (i + 1) xs)) zs
   join_more j =
-      let n = row_off (clash (g (get_or xs i d ∷ [])) ys) fault.TagInTable (gated_ok _ tt tt j.answer).0 in
-      let m = more g hom xs i d lt in
+      let n = row_off (clash (g (x ∷ [])) ys) fault.TagInTable (gated_ok _ tt tt j.answer).0 in
+      let m = more g hom xs i x at lt in
       record {
         apart =
-            ap (λ es. clash es ts) m ∙ clash_++ (g (take i xs)) (g (get_or xs i d ∷ [])) ts
-            ∙ ap (λ b. b || clash (g (get_or xs i d ∷ [])) (ts ++ g (take i xs))) h.apart
-            ∙ ap (clash (g (get_or xs i d ∷ []))) (sym h.there) ∙ n;
-        there = j.joined n ∙ ap (λ t. t ++ g (get_or xs i d ∷ [])) h.there ∙ append_assoc ts (g (take i xs)) (g (get_or xs i d ∷ [])) ∙ ap (λ es. ts ++ es) (sym m);
+            ap (λ es. clash es ts) m ∙ clash_++ (g (take i xs)) (g (x ∷ [])) ts
+            ∙ ap (λ b. b || clash (g (x ∷ [])) (ts ++ g (take i xs))) h.apart
+            ∙ ap (clash (g (x ∷ []))) (sym h.there) ∙ n;
+        there = j.joined n ∙ ap (λ t. t ++ g (x ∷ [])) h.there ∙ append_assoc ts (g (take i xs)) (g (x ∷ [])) ∙ ap (λ es. ts ++ es) (sym m);
       }
 
-  pub join_stops : (e : ApplyRemoteDetachError) → Joined ys (g (get_or xs i d ∷ [])) (Err e) zs → Joined ts (g xs) (Err e) zs
+  pub join_stops : (e : ApplyRemoteDetachError) → Joined ys (g (x ∷ [])) (Err e) zs → Joined ts (g xs) (Err e) zs
   join_stops e j =
-      let f = row_on (clash (g (get_or xs i d ∷ [])) ys) fault.TagInTable e (gated_err _ tt e j.answer) in
+      let f = row_on (clash (g (x ∷ [])) ys) fault.TagInTable e (gated_err _ tt e j.answer) in
       let r = g (drop (suc i) xs) in
       let c : clash (g xs) ts ≡ true =
-      ap (λ es. clash es ts) (whole g hom xs i d lt) ∙ clash_++ (g (take i xs)) (g (get_or xs i d ∷ []) ++ r) ts
-      ∙ ap (λ b. b || clash (g (get_or xs i d ∷ []) ++ r) (ts ++ g (take i xs))) h.apart ∙ clash_++ (g (get_or xs i d ∷ [])) r (ts ++ g (take i xs))
-      ∙ ap (λ b. b || clash r (ts ++ g (take i xs) ++ g (get_or xs i d ∷ []))) (ap (clash (g (get_or xs i d ∷ []))) (sym h.there) ∙ f.0) in
+      ap (λ es. clash es ts) (whole g hom xs i x at lt) ∙ clash_++ (g (take i xs)) (g (x ∷ []) ++ r) ts
+      ∙ ap (λ b. b || clash (g (x ∷ []) ++ r) (ts ++ g (take i xs))) h.apart ∙ clash_++ (g (x ∷ [])) r (ts ++ g (take i xs))
+      ∙ ap (λ b. b || clash r (ts ++ g (take i xs) ++ g (x ∷ []))) (ap (clash (g (x ∷ []))) (sym h.there) ∙ f.0) in
       record {
         answer = ap Err (sym f.1) ∙ sym (ap (λ b. gated (row b fault.TagInTable) tt) c);
         joined = λ k. absurd (true≢false (sym c ∙ k));

@@ -14,8 +14,8 @@ loop-slot-preserved c =
     let d = c.resume_delivery-decided.ensures ∙ ap (resumption _) c.get.ensures in
     let r = rw d at c.resume_as.ensures in
     record {
-      listed = listed_more (item_by told) c.args.slots.now l.slot-index _ c.loop-slot-test.true (items c.args.resume.now) (items l.resume) _ l.invariant.listed r.listed;
+      listed = listed_more (item_by told) c.args.slots.now l.slot-index _ c.slot-item.is c.loop-slot-test.true (items c.args.resume.now) (items l.resume) _ l.invariant.listed r.listed;
       space = r.space ∙ l.invariant.space;
       few = few_more _ _ (items l.resume) _ (length (items c.args.resume.now)) l.slot-index r.listed l.invariant.few;
-      told = ended_more (end_by told) c.args.slots.now l.slot-index _ c.loop-slot-test.true (seated c.args.seats.now) (seated l.seats) _ l.invariant.told r.told;
+      told = ended_more (end_by told) c.args.slots.now l.slot-index _ c.slot-item.is c.loop-slot-test.true (seated c.args.seats.now) (seated l.seats) _ l.invariant.told r.told;
     }

@@ -10,7 +10,7 @@ use Rattle.sender.proofs.sender_link.detach.tell_items.Goals as goal
 pub loop-item-preserved : goal.loop-item-preserved
 loop-item-preserved c =
     let o = c.args.outcome in
-    told_more (λ is. all_end o (listed is)) (λ is js. ap (all_end o) (listed_++ is js) ∙ map-append _ (listed is) (listed js)) c.args.items.now c.loop-item.item-index _ c.loop-item-test.true
+    told_more (λ is. all_end o (listed is)) (λ is js. ap (all_end o) (listed_++ is js) ∙ map-append _ (listed is) (listed js)) c.args.items.now c.loop-item.item-index _ c.item-item.is c.loop-item-test.true
     (seated c.args.seats.now) (seated c.loop-item.seats) _ c.loop-item.invariant c.tell_item.ensures
 
 pub returns : goal.returns

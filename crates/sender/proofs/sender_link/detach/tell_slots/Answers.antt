@@ -9,7 +9,7 @@ use Rattle.sender.proofs.sender_link.detach.tell_slots.Goals as goal
 pub loop-slot-preserved : goal.loop-slot-preserved
 loop-slot-preserved c =
     let o = c.args.outcome in
-    told_more (all_end o) (map-append _) c.args.slots.now c.loop-slot.slot-index _ c.loop-slot-test.true (seated c.args.seats.now) (seated c.loop-slot.seats) _ c.loop-slot.invariant c.tell.ensures
+    told_more (all_end o) (map-append _) c.args.slots.now c.loop-slot.slot-index _ c.slot-item.is c.loop-slot-test.true (seated c.args.seats.now) (seated c.loop-slot.seats) _ c.loop-slot.invariant c.tell.ensures
 
 pub returns : goal.returns
 returns c =
