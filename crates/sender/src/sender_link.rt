@@ -20,6 +20,7 @@ pub mod making;
 pub mod open;
 pub mod resend;
 pub mod send;
+pub mod shown;
 pub mod tickets;
 pub mod work;
 
