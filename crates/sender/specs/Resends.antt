@@ -48,7 +48,7 @@ abbrev pub AgainDone : List Entry → View → Carrier → Result Progress SendE
 AgainDone es v c r w t =
     Puts (first (again_rows v c es)) (progress es) (again_turn v es) (again_frames v c es) (again_payload c es) v c r w t
 
--- a resend on link `v` answers `r`, and leaves the link `w` and the sink `t`
+-- a resend on link `v` answers `r` (`resend_answer`), and leaves the link `w`, which is `step v (Resend c)`, and the sink `t`
 abbrev pub Resends : View → Carrier → Result Progress SendError → View → Model → Type 0
 Resends v c r w t =
     Puts (resend_refusal v c) (progress v.held.resend) (resent v) (resent_frames v c) (again_payload c v.held.resend) v c r w t

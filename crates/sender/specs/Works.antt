@@ -51,6 +51,6 @@ item_payload c (Settling t f o ∷ is) = []
 abbrev pub ItemDone : List ResumingDelivery → View → Carrier → Result Progress SendError → View → Model → Type 0
 ItemDone is v c r w t = Puts (first (item_rows v c is)) (progress is) (item_turn v c.pool is) (item_frames v c is) (item_payload c is) v c r w t
 
--- work on link `v` answers `r`, and leaves the link `w` and the sink `t`
+-- work on link `v` answers `r` (`work_answer`), and leaves the link `w`, which is `step v (Work c)`, and the sink `t`
 abbrev pub Works : View → Carrier → Result Progress SendError → View → Model → Type 0
 Works v c r w t = Puts (work_refusal v c) (progress v.held.resume) (worked v c) (worked_frames v c) (item_payload c v.held.resume) v c r w t
