@@ -44,12 +44,13 @@ zeros : (z n : ℕ) → n ≤ 32 → drop n (replicate 32 z) ≡ replicate (32 -
 zeros z n h = let e : 32 ≡ n + (32 - n) = omega arith in ap (λ k. drop n (replicate k z)) e ∙ fewer z n (32 - n)
 
 -- bytes that were copied over zeros
-pub over_zeros : (s p : List ℕ) → length s ≤ 32 → p ≡ s → Within (length s) (p ++ drop (length s) (replicate 32 0)) × Clear (length s) (p ++ drop (length s) (replicate 32 0))
-over_zeros s p h e =
-    let z = zeros 0 (length s) h in (
-      (h, length-append p (drop (length s) (replicate 32 0)) ∙ omega (arith, ap length e, ap length z, length-replicate {A = ℕ} (32 - length s) 0)),
-      drop_at p _ (length s) (ap length e) ∙ z,
-    )
+pub within_over_zeros : (s p : List ℕ) → length s ≤ 32 → p ≡ s → (length s ≤ 32) × (length (p ++ drop (length s) (replicate 32 0)) ≡ 32)
+within_over_zeros s p h e =
+    let z = zeros 0 (length s) h in
+    (h, length-append p (drop (length s) (replicate 32 0)) ∙ omega (arith, ap length e, ap length z, length-replicate {A = ℕ} (32 - length s) 0))
+
+pub clear_over_zeros : (s p : List ℕ) → length s ≤ 32 → p ≡ s → drop (length s) (p ++ drop (length s) (replicate 32 0)) ≡ replicate (32 - length s) 0
+clear_over_zeros s p h e = drop_at p _ (length s) (ap length e) ∙ zeros 0 (length s) h
 
 -- and the tag that they make
 pub copied : (t : DeliveryTag) (s : List ℕ) → length s ≤ 32 → t.len ≡ length s → t.bytes ≡ s ++ drop (length s) (replicate 32 0) → t ≡ tag_from s

@@ -30,6 +30,7 @@ impl DeliveryTag {
     ghost use Rattle.amqp.specs.Tags.{tag_bytes, tag_within, tag_of, SameBytesSameTag};
 
     // The tag of these bytes, or none where there are more than 32. An error of `TryFrom` could say no more.
+    #[tactic(auto, using(crate::proofs::Tags::within_over_zeros, crate::proofs::Tags::clear_over_zeros))]
     pub fn from_slice(s: &[u8]) -> Option<DeliveryTag>
         ensures { result ≡ tag_within s.now }
     {
