@@ -1,5 +1,5 @@
 -- What the archive keeps of a delivery whose frames may be cut off and come back.
-use Rattle.std.specs.Prelude.{◌≡◌, ℕ, ◌+◌, ◌%◌, ◌^◌, Bool, true, false, cond, nat_lt, List, [], ◌++◌, length, take, Some, None, Ok, Err, Option, Result}
+use Rattle.std.specs.Prelude.{◌≡◌, ℕ, Bool, true, false, cond, nat_lt, List, [], ◌++◌, length, take, Some, None, Ok, Err, Option, Result}
 use Rattle.amqp.specs.declared.header.FrameKind.{FrameKind}
 use Rattle.amqp.specs.declared.header.FrameKind.TheVariants as kind
 use Rattle.amqp.specs.declared.header.Header.{Header}
@@ -7,7 +7,10 @@ use Rattle.amqp.specs.declared.header.Header.TheVariants as header
 use Rattle.amqp.specs.declared.header.Transfer.{Transfer}
 use Rattle.amqp.specs.declared.state.DeliveryState.{DeliveryState}
 use Rattle.amqp.specs.declared.state.DeliveryState.TheVariants as state
+use Rattle.amqp.specs.declared.state.Received.{Received as Place}
 use Rattle.amqp.specs.declared.tag.DeliveryTag.{DeliveryTag}
+use Rattle.amqp.specs.Tags.{tag_bytes}
+use Rattle.unsettled.specs.declared.peer.PeerDelivery.{PeerDelivery}
 use Rattle.unsettled.specs.Tables.{same_tag}
 use Rattle.shipping.specs.Texts.{raised}
 use Rattle.voyage.specs.declared.receiver.ReceiveError.{ReceiveError}
@@ -19,18 +22,32 @@ pub record Piece : Type 0 where
   pub frames : ℕ
   pub bytes : List ℕ
 
--- how many frames were read, how many deliveries have begun, and the one that is not finished
+-- how many frames were read, and the delivery that is not finished
 pub record Intake : Type 0 where
   pub frames : ℕ
-  pub deliveries : ℕ
   pub part : Option Piece
 
 -- nothing has come
 abbrev pub untouched : Intake
-untouched = record { frames = 0; deliveries = 0; part = None }
+untouched = record { frames = 0; part = None }
 
 abbrev pub fresh : DeliveryTag → Piece
 fresh tag = record { tag = tag; frames = 0; bytes = [] }
+
+-- ---- what the archive says that it has
+
+-- how far it has come with a delivery: a place in the message's only section (Part 3, 3.4.1)
+abbrev pub reached : Piece → Place
+reached p = record { section_number = 0; section_offset = length p.bytes }
+
+-- a delivery in its map of unsettled deliveries: the tag's bytes, and the state
+abbrev pub known : Piece → List ℕ × Option DeliveryState
+known p = (tag_bytes p.tag, Some (state.Received (reached p)))
+
+abbrev pub listed : PeerDelivery → List ℕ × Option DeliveryState
+listed p = (p.tag.now, p.state)
+
+-- ---- what a first frame says
 
 abbrev pub came_by : (resume : Bool) → Option DeliveryState → ℕ
 came_by true (Some (state.Received p)) = p.section_offset
@@ -95,16 +112,9 @@ finished true more p = None
 finished false true p = None
 finished false false p = Some p
 
--- a first frame that does not resume begins a delivery
-abbrev pub begun : FrameKind → (resume : Bool) → ℕ → ℕ
-begun kind.First false n = (n + 1) % 2 ^ 32
-begun kind.First true n = n
-begun kind.Continuation resume n = n
-begun kind.Disposition resume n = n
-
-abbrev pub took : FrameKind → Transfer → Piece → Intake → Intake
-took k t p a =
-    record { frames = raised a.frames 1; deliveries = begun k t.resume a.deliveries; part = unfinished t.aborted t.more p }
+abbrev pub took : Transfer → Piece → Intake → Intake
+took t p a =
+    record { frames = raised a.frames 1; part = unfinished t.aborted t.more p }
 
 -- a transfer's frame is refused, which changes nothing, or its payload joins what came; a finished delivery is handed out
 abbrev pub Taken : FrameKind → Transfer → (payload : List ℕ) → Intake → Result (Option Piece) ReceiveError → Intake → Type 0
@@ -113,7 +123,7 @@ Taken k t payload a (Ok r) b =
     × (kept : ℕ)
     × (joining k t a.part ≡ Ok (tag, kept))
     × (r ≡ finished t.aborted t.more (joined tag kept payload a.part))
-    × (b ≡ took k t (joined tag kept payload a.part) a)
+    × (b ≡ took t (joined tag kept payload a.part) a)
 Taken k t payload a (Err NoMemory) b = Unit {0}
 Taken k t payload a (Err NoTag) b = (joining k t a.part ≡ Err NoTag) × (b ≡ a)
 Taken k t payload a (Err Stray) b = (joining k t a.part ≡ Err Stray) × (b ≡ a)

@@ -2,3 +2,5 @@
 #![tactic(auto)]
 
 pub mod receiver;
+pub mod report;
+pub mod returns;

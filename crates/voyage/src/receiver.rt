@@ -2,16 +2,16 @@
 // (Part 2, 2.6.14), and one that was cut off is resumed before anything else comes: so at most one is unfinished.
 ghost use Rattle.std.specs.Prelude.{◌≡◌, None, MatchResult};
 ghost use Rattle.std.specs.Option.{option_map};
-ghost use Rattle.shipping.specs.Texts.{raised};
 ghost use Rattle.voyage.specs.declared.receiver.ReceiveError.TheVariants.{NoMemory};
-ghost use Rattle.voyage.specs.Receiving.{Piece, Intake, untouched, fresh, kept_of, came_of, beginning, continuing, joining, joined, unfinished, finished, begun, Taken, Received as ReceivedAs};
+ghost use Rattle.voyage.specs.Receiving.{Piece, Intake, untouched, fresh, reached, known, listed, kept_of, came_of, beginning, continuing, joining, joined, unfinished, finished, Taken, Received as ReceivedAs};
 
 use amqp::header::{FrameKind, Header, Transfer};
-use amqp::state::DeliveryState;
+use amqp::state::{DeliveryState, Received};
 use amqp::tag::DeliveryTag;
 use sink::frame::Frame;
 use std::alloc::{AllocError, Global};
 use std::marker::Model;
+use unsettled::peer::PeerDelivery;
 
 // What came of a delivery.
 #[derive(Drop)]
@@ -32,15 +32,13 @@ impl Model for Part {
 pub struct Receiver {
     heap: Global,
     frames: u64,
-    // How many deliveries have begun, those of which the link alone knows too.
-    deliveries: u32,
     part: Option<Part>,
 }
 
 impl Model for Receiver {
     ghost Value = { Intake };
 
-    ghost view = { λ r. record { frames = r.frames; deliveries = r.deliveries; part = r.part } };
+    ghost view = { λ r. record { frames = r.frames; part = r.part } };
 }
 
 // Why a frame cannot be taken in.
@@ -85,6 +83,25 @@ impl Part {
             bytes: Vec::new(heap),
         }
     }
+
+    // How far the archive has come with it.
+    pub fn place(&self) -> Received
+        ensures { result ≡ reached self.now }
+    {
+        Received {
+            section_number: 0,
+            section_offset: self.bytes.len() as u64,
+        }
+    }
+
+    fn known(&self) -> PeerDelivery<'_>
+        ensures { listed result ≡ known self.now }
+    {
+        PeerDelivery {
+            tag: self.tag.as_slice(),
+            state: Some(DeliveryState::Received(self.place())),
+        }
+    }
 }
 
 impl Receiver {
@@ -94,7 +111,6 @@ impl Receiver {
         Receiver {
             heap,
             frames: 0,
-            deliveries: 0,
             part: None,
         }
     }
@@ -111,6 +127,13 @@ impl Receiver {
         ensures { option_map (λ p. p.now) result ≡ self.now.part }
     {
         self.part.as_ref()
+    }
+
+    // What the archive says that it has, when the link comes back: a place in the message's only section (Part 3, 3.4.1).
+    pub fn unsettled(&self) -> Option<PeerDelivery<'_>>
+        ensures { option_map listed result ≡ option_map known self.now.part }
+    {
+        self.part.as_ref().map(|part| part.known())
     }
 
     #[tactic(auto, unfolding(unsettled::specs::Tables::same_tag))]
@@ -161,7 +184,6 @@ impl Receiver {
     fn join(&mut self, tag: DeliveryTag, kept: usize, payload: &[u8]) -> Result<Part, ReceiveError>
         ensures joined { MatchResult result (λ p. p ≡ joined tag kept payload.now self.old.part) (λ e. e ≡ NoMemory) }
         ensures frames { self.new.frames ≡ self.old.frames }
-        ensures deliveries { self.new.deliveries ≡ self.old.deliveries }
         ensures part { self.new.part ≡ None }
     {
         let mut part = match self.part.take() {
@@ -175,24 +197,11 @@ impl Receiver {
         Ok(part)
     }
 
-    // One more frame, of a delivery that it begins or not.
-    fn count(&mut self, kind: FrameKind, resume: bool)
-        ensures frames { self.new.frames ≡ raised self.old.frames 1 }
-        ensures deliveries { self.new.deliveries ≡ begun kind resume self.old.deliveries }
-        ensures part { self.new.part ≡ self.old.part }
-    {
-        self.frames = self.frames.saturating_add(1);
-        if kind == FrameKind::First && !resume {
-            self.deliveries = self.deliveries.wrapping_add(1);
-        }
-    }
-
     // Keeps what is not finished, and hands out what is.
     fn keep(&mut self, transfer: &Transfer, part: Part) -> Option<Part>
         ensures answer { result ≡ finished transfer.now.aborted transfer.now.more part }
         ensures part { self.old.part ≡ None → self.new.part ≡ unfinished transfer.now.aborted transfer.now.more part }
         ensures frames { self.new.frames ≡ self.old.frames }
-        ensures deliveries { self.new.deliveries ≡ self.old.deliveries }
     {
         if transfer.aborted {
             return None;
@@ -214,7 +223,7 @@ impl Receiver {
     {
         let (tag, kept) = self.joins(kind, transfer)?;
         let part = self.join(tag, kept, payload)?;
-        self.count(kind, transfer.resume);
+        self.frames = self.frames.saturating_add(1);
         Ok(self.keep(transfer, part))
     }
 
