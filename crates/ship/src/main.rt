@@ -1,6 +1,7 @@
 // Ships files to an archive, one AMQP message each.
 #![tactic(auto)]
 
+mod breaking;
 mod spooling;
 
 use crate::spooling::SpoolFile;
