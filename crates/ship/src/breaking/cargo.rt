@@ -1,13 +1,12 @@
 // The messages of all files, end to end in one pool.
+use crate::breaking::trouble::Trouble;
 use amqp::condition::AmqpError;
 use amqp::state::DeliveryState;
 use link::delivery::Outcome;
+use shipping::message::data_section;
 use shipping::report::Shipment;
 use std::alloc::Global;
 use unsettled::message::Place;
-
-use crate::breaking::trouble::Trouble;
-use shipping::message::data_section;
 
 // A file on its way.
 #[derive(Clone, Copy)]
@@ -75,11 +74,7 @@ impl Cargo {
     // Accepted where they are the message of a file that is not through, and else rejected.
     pub fn judge(&self, bytes: &[u8]) -> DeliveryState {
         let pool = self.pool.as_slice();
-        if self
-            .files
-            .iter()
-            .any(|file| file.outcome.is_none() && file.is_message(pool, bytes))
-        {
+        if self.files.iter().any(|file| file.outcome.is_none() && file.is_message(pool, bytes)) {
             DeliveryState::Accepted
         } else {
             DeliveryState::Rejected(Some(AmqpError::DecodeError))
