@@ -10,7 +10,7 @@ use std::fmt;
 
 // A tag's bytes in digits, or a dash where it has none.
 #[derive(Clone, Copy)]
-struct Digits(DeliveryTag);
+pub struct Digits(pub DeliveryTag);
 
 impl fmt::Display for Digits {
     ghost output = { λ t. Some (tag_text t.0) };

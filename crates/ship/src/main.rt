@@ -1,8 +1,10 @@
 // Ships files to an archive, one AMQP message each.
 #![tactic(auto)]
 
+mod breaking;
 mod spooling;
 
+use crate::breaking::run_breaking;
 use crate::spooling::SpoolFile;
 use codec::compact::Compact;
 use queue::queue::Queue;
@@ -16,10 +18,12 @@ use std::io::{BufWriter, Write};
 use std::process::ExitCode;
 use std::{env, fmt, fs, io};
 
-const USAGE: &str = "usage: ship [--spool FILE] [--frame N] [--credit N] SHELF=FILE ...
+const USAGE: &str =
+    "usage: ship [--spool FILE] [--frame N] [--credit N] [--break N] ... SHELF=FILE ...
   With --spool, which comes first, the frames go through a spool, and its records to FILE.
   SHELF is response, mesh or raylog. Frames have 512 bytes at most, the credit is 100.
-  A frame size above 65535 counts as 65535.";
+  A frame size above 65535 counts as 65535. The connection breaks after the archive has read N frames;
+  there may be several such Ns, each above the one before, but not with --spool.";
 
 // What was to be said is said: the process ends with status 1.
 #[derive(Drop)]
@@ -113,10 +117,12 @@ fn start(rt: &HostRuntime) -> Result<(), Failed> {
     let words = words(rt).map_err(|e| fail(rt, e))?;
     let (spool, words) = spool_file(words.as_slice());
     let options = parse(rt.alloc(), words).map_err(|e| fail(rt, e))?;
-    match spool {
-        Some(path) => run_spooled(rt, &options, path),
+    match (spool, options.breaks.is_empty()) {
+        (Some(path), true) => run_spooled(rt, &options, path),
         // A queue's log is empty.
-        None => run::<Queue, _>(rt, &options, &mut SpoolFile::new(io::sink())),
+        (None, true) => run::<Queue, _>(rt, &options, &mut SpoolFile::new(io::sink())),
+        (None, false) => run_breaking(rt, &options),
+        (Some(_), false) => Err(fail(rt, "--break does not go with --spool")),
     }
 }
 

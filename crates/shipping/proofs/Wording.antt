@@ -9,9 +9,10 @@ use Rattle.shipping.specs.Words.{key_text, SoFar, Begins, NamesFile, Takes, Take
 
 -- ---- one word
 
-pub at_number : (a : Option Key) (k : Key) (word : List ℕ) (s t : SoFar) (r : Result (Unit {0}) UsageError) → a ≡ Some k → MatchResult r (λ _. Takes (Some k) word s t) (λ _. (u : SoFar) → Takes (Some k) word s u → ⊥) → MatchResult r (λ _. Takes a word s t) (λ e. (e ≡ NoMemory) ⊎ ((u : SoFar) → Takes a word s u → ⊥))
+pub at_number : (a : Option Key) (k : Key) (word : List ℕ) (s t : SoFar) (r : Result (Unit {0}) UsageError) → a ≡ Some k → MatchResult r (λ _. Takes (Some k) word s t) (λ e. (e ≡ NoMemory) ⊎ ((u : SoFar) → Takes (Some k) word s u → ⊥)) → MatchResult r (λ _. Takes a word s t) (λ e. (e ≡ NoMemory) ⊎ ((u : SoFar) → Takes a word s u → ⊥))
 at_number a k word s t (Ok x) e h = rw e h
-at_number a k word s t (Err x) e h = inr (λ u g. h u (rw e at g))
+at_number a k word s t (Err x) e (inl m) = inl m
+at_number a k word s t (Err x) e (inr h) = inr (λ u g. h u (rw e at g))
 
 pub at_file : (a : Option Key) (word : List ℕ) (s t : SoFar) (r : Result (Unit {0}) UsageError) → ((k : Key) → a ≡ Some k → ⊥) → ((k : Key) → word ≡ key_text k → ⊥) → MatchResult r (λ _. NamesFile word s t) (λ e. (e ≡ NoMemory) ⊎ ((u : SoFar) → NamesFile word s u → ⊥)) → MatchResult r (λ _. Takes a word s t) (λ e. (e ≡ NoMemory) ⊎ ((u : SoFar) → Takes a word s u → ⊥))
 at_file (Some k) word s t r a n h = absurd (a k refl)

@@ -2,7 +2,7 @@
 ghost use Rattle.std.specs.Prelude.{◌≡◌, ◌⊎◌, [], map, is_some, Some, None, string_bytes, MatchResult, ◌≢◌};
 ghost use Rattle.std.specs.Option.{option_map};
 ghost use Rattle.shipping.specs.declared.options.UsageError.TheVariants.{NoMemory};
-ghost use Rattle.shipping.specs.Words.{Wanted, wanted, spool_of, parcel_text, key_text, ReadsKey, usage_text, SoFar, unread, number_of, numbered, awaiting, NamesFile, Takes, TakesAll, Stops, Meant};
+ghost use Rattle.shipping.specs.Words.{Wanted, wanted, spool_of, parcel_text, key_text, ReadsKey, usage_text, SoFar, unread, number_of, reached, early, numbered, awaiting, NamesFile, Takes, TakesAll, Stops, Meant};
 
 use crate::number::read_u32;
 use crate::shelf::Shelf;
@@ -20,6 +20,8 @@ const CREDIT: u32 = 100;
 pub enum Key {
     Frame,
     Credit,
+    // The connection breaks after so many frames.
+    Break,
 }
 
 // The word is no key.
@@ -37,6 +39,8 @@ pub struct Parcel<'a> {
 pub struct Options<'a> {
     pub frame: u32,
     pub credit: u32,
+    // After how many frames the connection breaks, each time.
+    pub breaks: Vec<u32>,
     pub parcels: Vec<Parcel<'a>>,
 }
 
@@ -47,6 +51,8 @@ pub enum UsageError<'a> {
     Twice(Key),
     NoNumber(Key),
     BadNumber(Key, &'a str),
+    // A break that is not after the one before it.
+    NotAfter(&'a str),
     NoShelf(&'a str),
     UnknownShelf(&'a str),
     NoMemory,
@@ -67,6 +73,7 @@ impl fmt::Display for Key {
         match *self {
             Key::Frame => f.write_str("--frame"),
             Key::Credit => f.write_str("--credit"),
+            Key::Break => f.write_str("--break"),
         }
     }
 }
@@ -81,6 +88,7 @@ impl FromStr for Key {
         match word {
             "--frame" => Ok(Key::Frame),
             "--credit" => Ok(Key::Credit),
+            "--break" => Ok(Key::Break),
             _ => Err(UnknownKey),
         }
     }
@@ -98,6 +106,10 @@ impl fmt::Display for UsageError<'_> {
             UsageError::BadNumber(key, word) => {
                 write!(f, "{key} {word}: no decimal number up to 4294967295")
             }
+            UsageError::NotAfter(word) => write!(
+                f,
+                "--break {word} is not after the break before it"
+            ),
             UsageError::NoShelf(word) => write!(f, "{word} is not SHELF=FILE"),
             UsageError::UnknownShelf(name) => write!(f, "{name} is no shelf"),
             UsageError::NoMemory => f.write_str("not enough memory"),
@@ -110,6 +122,7 @@ impl fmt::Display for UsageError<'_> {
 struct Reading<'a> {
     frame: Option<u32>,
     credit: Option<u32>,
+    breaks: Vec<u32>,
     // An option whose number comes next.
     awaits: Option<Key>,
     parcels: Vec<Parcel<'a>>,
@@ -118,7 +131,14 @@ struct Reading<'a> {
 impl<'a> Model for Reading<'a> {
     ghost Value = { SoFar };
 
-    ghost view = { λ r. record { frame = r.frame; credit = r.credit; awaits = r.awaits; parcels = map wanted r.parcels.items } };
+    ghost view = { λ r. record { frame = r.frame; credit = r.credit; breaks = r.breaks.items; awaits = r.awaits; parcels = map wanted r.parcels.items } };
+}
+
+// Some break comes no earlier than after so many frames.
+fn has_reached(breaks: &[u32], n: u32) -> bool
+    ensures { result ≡ reached n breaks.now }
+{
+    breaks.iter().any(|b| n <= *b)
 }
 
 fn read_parcel(word: &str) -> Result<Parcel<'_>, UsageError<'_>>
@@ -136,25 +156,41 @@ impl<'a> Reading<'a> {
         match key {
             Key::Frame => self.frame.is_some(),
             Key::Credit => self.credit.is_some(),
+            // There may be several.
+            Key::Break => false,
         }
     }
 
-    fn set(&mut self, key: Key, n: u32)
-        ensures { self.new ≡ numbered key n self.old }
+    fn set(&mut self, key: Key, n: u32) -> Result<(), UsageError<'a>>
+        ensures { MatchResult result (λ _. self.new ≡ numbered key n self.old) (λ e. e ≡ NoMemory) }
     {
         match key {
             Key::Frame => self.frame = Some(n),
             Key::Credit => self.credit = Some(n),
+            Key::Break => self.breaks.push(n)?,
         }
         self.awaits = None;
+        Ok(())
+    }
+
+    // A break that does not come after all before it.
+    fn is_early(&self, key: Key, n: u32) -> bool
+        ensures { result ≡ early key n self.now }
+    {
+        match key {
+            Key::Frame | Key::Credit => false,
+            Key::Break => has_reached(self.breaks.as_slice(), n),
+        }
     }
 
     fn read_number(&mut self, key: Key, word: &'a str) -> Result<(), UsageError<'a>>
-        ensures { MatchResult result (λ _. Takes (Some key) word.now self.old self.new) (λ e. ((t : SoFar) → Takes (Some key) word.now self.old t → ⊥)) }
+        ensures { MatchResult result (λ _. Takes (Some key) word.now self.old self.new) (λ e. (e ≡ NoMemory) ⊎ ((t : SoFar) → Takes (Some key) word.now self.old t → ⊥)) }
     {
         let n = read_u32(word).ok_or(UsageError::BadNumber(key, word))?;
-        self.set(key, n);
-        Ok(())
+        if self.is_early(key, n) {
+            return Err(UsageError::NotAfter(word));
+        }
+        self.set(key, n)
     }
 
     fn read_option(&mut self, key: Key) -> Result<(), UsageError<'a>>
@@ -201,6 +237,7 @@ impl<'a> Reading<'a> {
         Ok(Options {
             frame: self.frame.unwrap_or(FRAME),
             credit: self.credit.unwrap_or(CREDIT),
+            breaks: self.breaks,
             parcels: self.parcels,
         })
     }
@@ -224,6 +261,7 @@ pub fn parse<'a>(heap: Global, words: &'a [String]) -> Result<Options<'a>, Usage
     let mut reading = Reading {
         frame: None,
         credit: None,
+        breaks: Vec::new(heap),
         awaits: None,
         parcels: Vec::new(heap),
     };

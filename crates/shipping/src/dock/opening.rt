@@ -27,7 +27,7 @@ use unsettled::peer::PeerDelivery;
 use unsettled::slot::Slot;
 
 // The longest frame that is asked for. A sink's payloads have at most so many bytes, and a frame's has fewer.
-const LONGEST_FRAME: usize = 65535;
+pub const LONGEST_FRAME: usize = 65535;
 
 // Each ticket is collected before the next message is sent, so that few entries are in use at a time.
 const ENTRIES: usize = 16;

@@ -9,7 +9,7 @@ returns c =
     let p = c.in_ok-read_parcel.field-0 in (
       wanted p,
       c.in_ok-read_parcel.ensures,
-      ap (λ (ps : List Wanted). record { frame = s.frame; credit = s.credit; awaits = s.awaits; parcels = ps })
+      ap (λ (ps : List Wanted). record { frame = s.frame; credit = s.credit; breaks = vec_items s.breaks; awaits = s.awaits; parcels = ps })
           (ap (map wanted) c.in_ok-push.ensures.items ∙ map_push wanted (vec_items s.parcels) p)
           ∙ ap (λ (t : SoFar). with_parcel (wanted p) t) c.self.view_is,
     )

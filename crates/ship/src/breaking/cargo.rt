@@ -1,0 +1,83 @@
+// The messages of all files, end to end in one pool.
+use crate::breaking::trouble::Trouble;
+use amqp::condition::AmqpError;
+use amqp::state::DeliveryState;
+use link::delivery::Outcome;
+use shipping::message::data_section;
+use shipping::report::Shipment;
+use std::alloc::Global;
+use unsettled::message::Place;
+
+// A file on its way.
+#[derive(Clone, Copy)]
+pub struct Consignment {
+    // Where its message lies in the pool.
+    pub place: Place,
+    pub bytes: usize,
+    // How many frames brought what the archive answered for.
+    pub frames: usize,
+    pub outcome: Option<Outcome>,
+}
+
+#[derive(Drop)]
+pub struct Cargo {
+    pub pool: Vec<u8>,
+    pub files: Vec<Consignment>,
+}
+
+impl Consignment {
+    pub fn shipment(&self, ticket: u32) -> Shipment {
+        Shipment {
+            frames: self.frames,
+            ticket,
+            progress: self.outcome,
+        }
+    }
+
+    pub fn is_accepted(&self) -> bool {
+        self.outcome == Some(Outcome::State(DeliveryState::Accepted))
+    }
+
+    // Whether these bytes are its message.
+    pub fn is_message(&self, pool: &[u8], bytes: &[u8]) -> bool {
+        if self.place.is_outside(pool) {
+            return false;
+        }
+        bytes == &pool[self.place.start..self.place.start + self.place.len]
+    }
+}
+
+impl Cargo {
+    pub fn new(heap: Global) -> Cargo {
+        Cargo {
+            pool: Vec::new(heap),
+            files: Vec::new(heap),
+        }
+    }
+
+    pub fn load(&mut self, heap: Global, file: &[u8]) -> Result<(), Trouble> {
+        let message = data_section(heap, file)?;
+        let place = Place {
+            start: self.pool.len(),
+            len: message.len(),
+        };
+        self.pool.extend_from_slice(message.as_slice())?;
+        self.files.push(Consignment {
+            place,
+            bytes: file.len(),
+            frames: 0,
+            outcome: None,
+        })?;
+        Ok(())
+    }
+
+    // Accepted where they are the message of a file that is not through, and else rejected.
+    pub fn judge(&self, bytes: &[u8]) -> DeliveryState {
+        let pool = self.pool.as_slice();
+        if self.files.iter().any(|file| file.outcome.is_none() && file.is_message(pool, bytes)) {
+            DeliveryState::Accepted
+        } else {
+            DeliveryState::Rejected(Some(AmqpError::DecodeError))
+        }
+    }
+}

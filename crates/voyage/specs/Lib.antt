@@ -1,0 +1,3 @@
+pub mod Receiving
+pub mod Returns
+pub mod Reports
