@@ -1,5 +1,10 @@
 // The messages of all files, end to end in one pool.
 use crate::breaking::trouble::Trouble;
+ghost use Rattle.std.specs.Prelude.{◌≡◌, true, [], ◌++◌, OnOk};
+ghost use Rattle.link.specs.Sending.{message};
+ghost use Rattle.shipping.specs.Sections.{data_section};
+ghost use Rattle.shipping.specs.Texts.{is_accepted};
+
 use amqp::condition::AmqpError;
 use amqp::state::DeliveryState;
 use link::delivery::Outcome;
@@ -26,7 +31,9 @@ pub struct Cargo {
 }
 
 impl Consignment {
-    pub fn shipment(&self, ticket: u32) -> Shipment {
+    pub fn shipment(&self, ticket: u32) -> Shipment
+        ensures { result ≡ record { frames = self.now.frames; ticket = ticket; progress = self.now.outcome } }
+    {
         Shipment {
             frames: self.frames,
             ticket,
@@ -34,12 +41,16 @@ impl Consignment {
         }
     }
 
-    pub fn is_accepted(&self) -> bool {
+    pub fn is_accepted(&self) -> bool
+        ensures { result ≡ is_accepted self.now.outcome }
+    {
         self.outcome == Some(Outcome::State(DeliveryState::Accepted))
     }
 
     // Whether these bytes are its message.
-    pub fn is_message(&self, pool: &[u8], bytes: &[u8]) -> bool {
+    pub fn is_message(&self, pool: &[u8], bytes: &[u8]) -> bool
+        ensures { result ≡ true → bytes.now ≡ message pool.now self.now.place }
+    {
         if self.place.is_outside(pool) {
             return false;
         }
@@ -55,7 +66,10 @@ impl Cargo {
         }
     }
 
-    pub fn load(&mut self, heap: Global, file: &[u8]) -> Result<(), Trouble> {
+    // The file's message joins the end of the pool.
+    pub fn load(&mut self, heap: Global, file: &[u8]) -> Result<(), Trouble>
+        ensures { OnOk result (self.new.pool.items ≡ self.old.pool.items ++ data_section file.now) }
+    {
         let message = data_section(heap, file)?;
         let place = Place {
             start: self.pool.len(),

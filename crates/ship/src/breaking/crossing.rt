@@ -1,5 +1,8 @@
 // A link, the queue of its frames and the archive that reads them one by one, over connections that break.
-ghost use Rattle.std.specs.Prelude.{◌≡◌};
+ghost use Rattle.std.specs.Prelude.{◌≡◌, false, None, OnOk, vec_len};
+ghost use Rattle.link.specs.Calls.{Detach, step};
+ghost use Rattle.queue.specs.Queues.{model_of};
+ghost use Rattle.sink.specs.Frames.{empty};
 
 use crate::breaking::cargo::Cargo;
 use crate::breaking::trouble::Trouble;
@@ -124,7 +127,9 @@ impl<'a> Crossing<'a> {
     }
 
     // Sends the next file, if one is left.
-    fn send_next(&mut self, tickets: &mut Vec<Ticket>) -> Result<Progress, Trouble> {
+    fn send_next(&mut self, tickets: &mut Vec<Ticket>) -> Result<Progress, Trouble>
+        ensures { self.new.archive ≡ self.old.archive }
+    {
         let Some(file) = self.cargo.files.as_slice().get(tickets.len()) else {
             return Ok(Progress::Done);
         };
@@ -144,7 +149,9 @@ impl<'a> Crossing<'a> {
         }
     }
 
-    fn hold(&mut self, tickets: &mut Vec<Ticket>, ticket: Ticket) -> Result<Progress, Trouble> {
+    fn hold(&mut self, tickets: &mut Vec<Ticket>, ticket: Ticket) -> Result<Progress, Trouble>
+        ensures { self.new.archive ≡ self.old.archive }
+    {
         if let Err(failed) = tickets.push(ticket) {
             let _ = self.link.collect(failed.value);
             return Err(Trouble::Ship(ShipError::NoMemory));
@@ -300,7 +307,11 @@ impl<'a> Crossing<'a> {
     }
 
     // What waits in the queue is lost, and the link's deliveries stand in its table again.
-    pub fn break_off(&mut self) -> Result<(), Trouble> {
+    pub fn break_off(&mut self) -> Result<(), Trouble>
+        ensures link { OnOk result (self.new.link ≡ step self.old.link (Detach false None)) }
+        ensures queue { OnOk result (model_of self.new.queue ≡ empty self.old.places (vec_len self.old.out)) }
+        ensures archive { self.new.archive ≡ self.old.archive }
+    {
         let unfinished = self.archive.part().map(|part| part.tag);
         if unfinished.is_some() && unfinished == self.cut {
             return Err(Trouble::BrokenTwice);
@@ -311,7 +322,9 @@ impl<'a> Crossing<'a> {
         Ok(())
     }
 
-    pub fn returns(&self) -> Option<Returns> {
+    pub fn returns(&self) -> Option<Returns>
+        ensures { result ≡ self.now.returns }
+    {
         self.returns
     }
 
