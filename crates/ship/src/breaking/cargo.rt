@@ -1,10 +1,10 @@
 // The messages of all files, end to end in one pool.
-use crate::breaking::trouble::Trouble;
 ghost use Rattle.std.specs.Prelude.{◌≡◌, true, [], ◌++◌, OnOk};
 ghost use Rattle.link.specs.Sending.{message};
 ghost use Rattle.shipping.specs.Sections.{data_section};
 ghost use Rattle.shipping.specs.Texts.{is_accepted};
 
+use crate::breaking::trouble::Trouble;
 use amqp::condition::AmqpError;
 use amqp::state::DeliveryState;
 use link::delivery::Outcome;
