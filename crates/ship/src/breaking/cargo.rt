@@ -1,5 +1,5 @@
 // The messages of all files, end to end in one pool.
-ghost use Rattle.std.specs.Prelude.{◌≡◌, true, [], ◌++◌, OnOk};
+ghost use Rattle.std.specs.Prelude.{◌≡◌, ◌≢◌, true, None, ◌++◌, OnOk};
 ghost use Rattle.link.specs.Sending.{message};
 ghost use Rattle.shipping.specs.Sections.{data_section};
 ghost use Rattle.shipping.specs.Texts.{is_accepted};
@@ -12,6 +12,7 @@ use shipping::message::data_section;
 use shipping::report::Shipment;
 use std::alloc::Global;
 use unsettled::message::Place;
+use voyage::receiver::Part;
 
 // A file on its way.
 #[derive(Clone, Copy)]
@@ -55,6 +56,22 @@ impl Consignment {
             return false;
         }
         bytes == &pool[self.place.start..self.place.start + self.place.len]
+    }
+
+    // What its ticket tells once the archive has answered for a delivery. No file is accepted with bytes that are not its own.
+    pub fn learn(&mut self, told: Option<Outcome>, part: &Part, pool: &[u8]) -> Result<(), Trouble>
+        ensures own { OnOk result (self.old.outcome ≡ None → is_accepted self.new.outcome ≡ true → part.now.bytes ≡ message pool.now self.new.place) }
+        ensures once { self.old.outcome ≢ None → self.new ≡ self.old }
+    {
+        if self.outcome.is_some() || told.is_none() {
+            return Ok(());
+        }
+        self.outcome = told;
+        self.frames = part.frames;
+        if self.is_accepted() && !self.is_message(pool, part.bytes.as_slice()) {
+            return Err(Trouble::Mixed);
+        }
+        Ok(())
     }
 }
 

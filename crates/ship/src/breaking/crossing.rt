@@ -222,21 +222,11 @@ impl<'a> Crossing<'a> {
     fn answer(&mut self, part: &Part, tickets: &Vec<Ticket>) -> Result<(), Trouble>
         ensures { self.new.queue ≡ self.old.queue }
     {
-        let bytes = part.bytes.as_slice();
-        let state = self.cargo.judge(bytes);
+        let state = self.cargo.judge(part.bytes.as_slice());
         let _ = self.link.disposition(&part.tag, true, Some(state));
         let pool = self.cargo.pool.as_slice();
         for (file, ticket) in self.cargo.files.iter_mut().zip(tickets.iter()) {
-            if file.outcome.is_some() {
-                continue;
-            }
-            file.outcome = self.link.look(ticket)?;
-            if file.outcome.is_some() {
-                file.frames = part.frames;
-            }
-            if file.is_accepted() && !file.is_message(pool, bytes) {
-                return Err(Trouble::Mixed);
-            }
+            file.learn(self.link.look(ticket)?, part, pool)?;
         }
         Ok(())
     }
