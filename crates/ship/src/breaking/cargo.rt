@@ -1,4 +1,9 @@
 // The messages of all files, end to end in one pool.
+ghost use Rattle.std.specs.Prelude.{◌≡◌, ◌≢◌, true, None, ◌++◌, OnOk};
+ghost use Rattle.link.specs.Sending.{message};
+ghost use Rattle.shipping.specs.Sections.{data_section};
+ghost use Rattle.shipping.specs.Texts.{is_accepted};
+
 use crate::breaking::trouble::Trouble;
 use amqp::condition::AmqpError;
 use amqp::state::DeliveryState;
@@ -7,6 +12,7 @@ use shipping::message::data_section;
 use shipping::report::Shipment;
 use std::alloc::Global;
 use unsettled::message::Place;
+use voyage::receiver::Part;
 
 // A file on its way.
 #[derive(Clone, Copy)]
@@ -26,7 +32,9 @@ pub struct Cargo {
 }
 
 impl Consignment {
-    pub fn shipment(&self, ticket: u32) -> Shipment {
+    pub fn shipment(&self, ticket: u32) -> Shipment
+        ensures { result ≡ record { frames = self.now.frames; ticket = ticket; progress = self.now.outcome } }
+    {
         Shipment {
             frames: self.frames,
             ticket,
@@ -34,16 +42,36 @@ impl Consignment {
         }
     }
 
-    pub fn is_accepted(&self) -> bool {
+    pub fn is_accepted(&self) -> bool
+        ensures { result ≡ is_accepted self.now.outcome }
+    {
         self.outcome == Some(Outcome::State(DeliveryState::Accepted))
     }
 
     // Whether these bytes are its message.
-    pub fn is_message(&self, pool: &[u8], bytes: &[u8]) -> bool {
+    pub fn is_message(&self, pool: &[u8], bytes: &[u8]) -> bool
+        ensures { result ≡ true → bytes.now ≡ message pool.now self.now.place }
+    {
         if self.place.is_outside(pool) {
             return false;
         }
         bytes == &pool[self.place.start..self.place.start + self.place.len]
+    }
+
+    // What its ticket tells once the archive has answered for a delivery. No file is accepted with bytes that are not its own.
+    pub fn learn(&mut self, told: Option<Outcome>, part: &Part, pool: &[u8]) -> Result<(), Trouble>
+        ensures own { OnOk result (self.old.outcome ≡ None → is_accepted self.new.outcome ≡ true → part.now.bytes ≡ message pool.now self.new.place) }
+        ensures once { self.old.outcome ≢ None → self.new ≡ self.old }
+    {
+        if self.outcome.is_some() || told.is_none() {
+            return Ok(());
+        }
+        self.outcome = told;
+        self.frames = part.frames;
+        if self.is_accepted() && !self.is_message(pool, part.bytes.as_slice()) {
+            return Err(Trouble::Mixed);
+        }
+        Ok(())
     }
 }
 
@@ -55,7 +83,10 @@ impl Cargo {
         }
     }
 
-    pub fn load(&mut self, heap: Global, file: &[u8]) -> Result<(), Trouble> {
+    // The file's message joins the end of the pool.
+    pub fn load(&mut self, heap: Global, file: &[u8]) -> Result<(), Trouble>
+        ensures { OnOk result (self.new.pool.items ≡ self.old.pool.items ++ data_section file.now) }
+    {
         let message = data_section(heap, file)?;
         let place = Place {
             start: self.pool.len(),

@@ -1,5 +1,8 @@
 // A link, the queue of its frames and the archive that reads them one by one, over connections that break.
-ghost use Rattle.std.specs.Prelude.{◌≡◌};
+ghost use Rattle.std.specs.Prelude.{◌≡◌, false, None, OnOk, vec_len};
+ghost use Rattle.link.specs.Calls.{Detach, step};
+ghost use Rattle.queue.specs.Queues.{model_of};
+ghost use Rattle.sink.specs.Frames.{empty};
 
 use crate::breaking::cargo::Cargo;
 use crate::breaking::trouble::Trouble;
@@ -124,7 +127,9 @@ impl<'a> Crossing<'a> {
     }
 
     // Sends the next file, if one is left.
-    fn send_next(&mut self, tickets: &mut Vec<Ticket>) -> Result<Progress, Trouble> {
+    fn send_next(&mut self, tickets: &mut Vec<Ticket>) -> Result<Progress, Trouble>
+        ensures { self.new.archive ≡ self.old.archive }
+    {
         let Some(file) = self.cargo.files.as_slice().get(tickets.len()) else {
             return Ok(Progress::Done);
         };
@@ -144,7 +149,9 @@ impl<'a> Crossing<'a> {
         }
     }
 
-    fn hold(&mut self, tickets: &mut Vec<Ticket>, ticket: Ticket) -> Result<Progress, Trouble> {
+    fn hold(&mut self, tickets: &mut Vec<Ticket>, ticket: Ticket) -> Result<Progress, Trouble>
+        ensures { self.new.archive ≡ self.old.archive }
+    {
         if let Err(failed) = tickets.push(ticket) {
             let _ = self.link.collect(failed.value);
             return Err(Trouble::Ship(ShipError::NoMemory));
@@ -215,21 +222,11 @@ impl<'a> Crossing<'a> {
     fn answer(&mut self, part: &Part, tickets: &Vec<Ticket>) -> Result<(), Trouble>
         ensures { self.new.queue ≡ self.old.queue }
     {
-        let bytes = part.bytes.as_slice();
-        let state = self.cargo.judge(bytes);
+        let state = self.cargo.judge(part.bytes.as_slice());
         let _ = self.link.disposition(&part.tag, true, Some(state));
         let pool = self.cargo.pool.as_slice();
         for (file, ticket) in self.cargo.files.iter_mut().zip(tickets.iter()) {
-            if file.outcome.is_some() {
-                continue;
-            }
-            file.outcome = self.link.look(ticket)?;
-            if file.outcome.is_some() {
-                file.frames = part.frames;
-            }
-            if file.is_accepted() && !file.is_message(pool, bytes) {
-                return Err(Trouble::Mixed);
-            }
+            file.learn(self.link.look(ticket)?, part, pool)?;
         }
         Ok(())
     }
@@ -300,7 +297,11 @@ impl<'a> Crossing<'a> {
     }
 
     // What waits in the queue is lost, and the link's deliveries stand in its table again.
-    pub fn break_off(&mut self) -> Result<(), Trouble> {
+    pub fn break_off(&mut self) -> Result<(), Trouble>
+        ensures link { OnOk result (self.new.link ≡ step self.old.link (Detach false None)) }
+        ensures queue { OnOk result (model_of self.new.queue ≡ empty self.old.places (vec_len self.old.out)) }
+        ensures archive { self.new.archive ≡ self.old.archive }
+    {
         let unfinished = self.archive.part().map(|part| part.tag);
         if unfinished.is_some() && unfinished == self.cut {
             return Err(Trouble::BrokenTwice);
@@ -311,7 +312,9 @@ impl<'a> Crossing<'a> {
         Ok(())
     }
 
-    pub fn returns(&self) -> Option<Returns> {
+    pub fn returns(&self) -> Option<Returns>
+        ensures { result ≡ self.now.returns }
+    {
         self.returns
     }
 
