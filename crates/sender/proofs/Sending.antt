@@ -13,7 +13,7 @@ use Rattle.link.specs.Turns.{Turn, landed, stay}
 use Rattle.link.specs.Views.{View}
 use Rattle.link.proofs.Rows.{first_some, first_none, first_alone, after_same, accepted_not, gated_err}
 use Rattle.sender.specs.declared.sender_link.send.Plan.{Plan}
-use Rattle.sender.specs.Sends.{addable, planned, plan_of}
+use Rattle.sender.specs.Sends.{blind, addable, planned, plan_of}
 
 -- ---- from the two halves of a send to the whole
 
@@ -60,7 +60,7 @@ whole_sink v c m p t e n h =
 
 -- a carrier whose sink no plan looks at
 abbrev pub blind_carrier : (Header → List ℕ) → List ℕ → Carrier
-blind_carrier bytes pool = carrier bytes pool (record { waiting = []; vacancy = 0; widest = 0; stopped = None })
+blind_carrier bytes pool = carrier bytes pool blind
 
 -- where no row before it refuses, what is refused of the entry is refused of the message
 pub by_entry : (v : View) (c : Carrier) (m : Sendable) (e : SendError) → ready v ≡ true → busy v ≡ false → outside m.place (length c.pool) ≡ false → exceeds v.settings.max_message_size m.place.len ≡ false

@@ -34,7 +34,7 @@ abbrev pub plan_of : View → Carrier → Sendable → Plan
 plan_of v c m = record { transfer = transfer_of v m; share = share_for v c m; settled = goes_settled v m }
 
 -- a sink that no plan looks at
-abbrev blind : Model
+abbrev pub blind : Model
 blind = record { waiting = []; vacancy = 0; widest = 0; stopped = None }
 
 -- the plan, or what the link itself refuses

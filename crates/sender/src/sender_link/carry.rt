@@ -1,10 +1,9 @@
 // What the calls that put a delivery's frames have in common.
-ghost use Rattle.std.specs.Prelude.{◌≡◌, ◌+◌, ◌≤◌, false, length, None, Some};
+ghost use Rattle.std.specs.Prelude.{◌≡◌, ◌+◌, ◌≤◌, false, length, Some};
 ghost use Rattle.link.specs.Rows.{first, gated, row};
-ghost use Rattle.link.specs.Sending.{carrier, narrow, handled, join_rows, message, share_by, table_full, tag_there, sink_row, cut, frames_needed};
+ghost use Rattle.link.specs.Sending.{carrier, narrow, handled, join_rows, message, table_full, tag_there, sink_row, cut, frames_needed};
 ghost use Rattle.link.specs.Turns.{landed};
 ghost use Rattle.link.specs.Working.{tasked};
-ghost use Rattle.amqp.specs.Headers.{measured};
 ghost use Rattle.amqp.specs.declared.error.SendError.TheVariants.{FrameTooSmall};
 ghost use Rattle.sink.specs.Frames.{After};
 ghost use Rattle.sender.specs.Tasks.{shared, carriable};

@@ -1,5 +1,5 @@
 // Sending again what the peer has no record of, one delivery a call.
-ghost use Rattle.std.specs.Prelude.{◌≡◌, ◌∷◌, Some, drop};
+ghost use Rattle.std.specs.Prelude.{◌≡◌, Some};
 ghost use Rattle.std.specs.List.{slice_get};
 ghost use Rattle.link.specs.Calls.{Resend};
 ghost use Rattle.link.specs.Sending.{carrier};
@@ -18,7 +18,7 @@ use unsettled::message::UnsettledMessage;
 use unsettled::slot::Slot;
 
 impl<'a> SenderLink<'a> {
-    // A delivery as a new message, of which nothing is asked; its entry has no state, as the new tag has none.
+    // A delivery as a new message, of which nothing is asked; of its new tag the peer has told nothing, so its entry has no state.
     fn again(&self, slot: &Slot<UnsettledMessage>) -> Task
         ensures { result ≡ again_task self.now slot.now }
     {
