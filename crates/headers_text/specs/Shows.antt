@@ -9,9 +9,12 @@ use Rattle.amqp.specs.Tags.{tag_bytes}
 use Rattle.amqp.specs.Texts.{truth, state_text}
 use Rattle.headers_text.specs.Hex.{pairs}
 
--- the tag's bytes in digits, or a dash
+-- bytes in digits, or a dash
+abbrev pub bytes_text : List ℕ → List ℕ
+bytes_text bytes = if length bytes == 0 then codes "-" else pairs bytes
+
 abbrev pub tag_text : DeliveryTag → List ℕ
-tag_text t = if length (tag_bytes t) == 0 then codes "-" else pairs (tag_bytes t)
+tag_text t = bytes_text (tag_bytes t)
 
 -- a field that may be absent
 abbrev pub or_none : {A : Type 0} → (A → List ℕ) → Option A → List ℕ

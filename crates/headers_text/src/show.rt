@@ -1,14 +1,40 @@
 // What is printed of a header.
 ghost use Rattle.std.specs.Prelude.{Some};
 ghost use Rattle.std.specs.Fmt.{WritesOnOk};
-ghost use Rattle.headers_text.specs.Shows.{tag_text, header_text, transfer_text, delivery_text, flags_text, disposition_text};
+ghost use Rattle.headers_text.specs.Hex.{pairs};
+ghost use Rattle.headers_text.specs.Shows.{bytes_text, tag_text, header_text, transfer_text, delivery_text, flags_text, disposition_text};
 
 use amqp::header::{Disposition, Header, Transfer};
 use amqp::tag::DeliveryTag;
 use amqp::text::{Or, YesNo};
 use std::fmt;
 
-// A tag's bytes in digits, or a dash where it has none.
+fn write_digits<W: fmt::Write>(bytes: &[u8], f: &mut fmt::Formatter<W>) -> fmt::Result
+    ensures { WritesOnOk W.write_str_gives f.old result (pairs bytes.now) f.new }
+{
+    for b in bytes {
+        write!(f, "{b:02x}")?;
+    }
+    Ok(())
+}
+
+// Bytes in digits, or a dash where there are none.
+#[derive(Clone, Copy)]
+pub struct ByteDigits<'b>(pub &'b [u8]);
+
+impl fmt::Display for ByteDigits<'_> {
+    ghost output = { λ b. Some (bytes_text b.0.now) };
+
+    fn fmt<W: fmt::Write>(&self, f: &mut fmt::Formatter<W>) -> fmt::Result {
+        if self.0.is_empty() {
+            f.write_str("-")
+        } else {
+            write_digits(self.0, f)
+        }
+    }
+}
+
+// A tag's bytes in digits.
 #[derive(Clone, Copy)]
 pub struct Digits(pub DeliveryTag);
 
@@ -16,14 +42,7 @@ impl fmt::Display for Digits {
     ghost output = { λ t. Some (tag_text t.0) };
 
     fn fmt<W: fmt::Write>(&self, f: &mut fmt::Formatter<W>) -> fmt::Result {
-        let bytes = self.0.as_slice();
-        if bytes.is_empty() {
-            return f.write_str("-");
-        }
-        for b in bytes {
-            write!(f, "{b:02x}")?;
-        }
-        Ok(())
+        write!(f, "{}", ByteDigits(self.0.as_slice()))
     }
 }
 

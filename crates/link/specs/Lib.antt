@@ -4,6 +4,7 @@ pub mod Credit
 pub mod Settings
 pub mod Outcomes
 pub mod Texts
+pub mod Seating
 pub mod Seats
 pub mod Views
 pub mod Turns

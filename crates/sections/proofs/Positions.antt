@@ -68,3 +68,21 @@ found_is_the_one msg place (Some i) e =
     let f = found_passes (lies_at msg place) 0 (length msg - 2) i (sym e) in
     let a = is_at msg place i (omega (arith, f.1)) f.0 in
     (a, λ j b. one_position msg place i j a b)
+
+-- where a place has no position, or has this one, the search answers so
+pub nowhere : (msg : List ℕ) (place : Received) → ((i : ℕ) → IsAt msg place i → ⊥) → None ≡ start_of msg place
+nowhere msg place none = go (start_of msg place) (found_is_the_one msg place (start_of msg place) refl)
+  where
+    go : (o : Option ℕ) → OnePosition msg place o → None ≡ o
+    go None one = refl
+    go (Some i) one = absurd (none i one.0)
+
+pub here : (msg : List ℕ) (place : Received) (i : ℕ) → IsAt msg place i → Some i ≡ start_of msg place
+here msg place i at = go (start_of msg place) (found_is_the_one msg place (start_of msg place) refl)
+  where
+    go : (o : Option ℕ) → OnePosition msg place o → Some i ≡ o
+    go None one = absurd (one i at)
+    go (Some j) one = ap Some (one.1 i at)
+
+pub the_only : (msg : List ℕ) (place : Received) (i : ℕ) → IsAt msg place i → OnePosition msg place (Some i)
+the_only msg place i at = (at, λ j b. one_position msg place i j at b)

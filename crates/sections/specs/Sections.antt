@@ -41,3 +41,18 @@ pub record IsAt (msg : List ℕ) (place : Received) (i : ℕ) : Type 0 where
 -- the answer is the one position of the place, and none where there is none
 abbrev pub OnePosition : List ℕ → Received → Option ℕ → Type 0
 OnePosition msg place r = MatchOption r ((i : ℕ) → IsAt msg place i → ⊥) (λ i. IsAt msg place i × ((j : ℕ) → IsAt msg place j → j ≡ i))
+
+-- no section begins from position a up to b, which does not count
+abbrev pub NoneBegins : List ℕ → ℕ → ℕ → Type 0
+NoneBegins msg a b = (k : ℕ) → a ≤ k → k < b → begins_at msg k ≡ false
+
+-- the first section that begins at `from` or past it
+abbrev pub NextSection : List ℕ → ℕ → Option ℕ → Type 0
+NextSection msg from r =
+    MatchOption r (NoneBegins msg from (length msg)) (λ i. (from ≤ i) × (i + 3 ≤ length msg) × (begins_at msg i ≡ true) × NoneBegins msg from i)
+
+-- the section before which so many begin
+abbrev pub NumberedSection : List ℕ → ℕ → Option ℕ → Type 0
+NumberedSection msg number r =
+    MatchOption r ((i : ℕ) → begins_at msg i ≡ true → begun_before msg i ≡ number → ⊥)
+    (λ i. (i + 3 ≤ length msg) × (begins_at msg i ≡ true) × (begun_before msg i ≡ number))

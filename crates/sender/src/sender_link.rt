@@ -18,6 +18,7 @@ pub mod disposition;
 pub mod flow;
 pub mod making;
 pub mod open;
+pub mod parts;
 pub mod resend;
 pub mod send;
 pub mod shown;

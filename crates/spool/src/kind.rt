@@ -5,7 +5,7 @@ ghost use Rattle.spool.specs.Reading.{kind_of};
 
 use amqp::header::FrameKind;
 
-pub(crate) fn code_of(kind: FrameKind) -> u16
+pub fn code_of(kind: FrameKind) -> u16
     ensures { result ≡ code_of kind }
 {
     match kind {

@@ -1,7 +1,7 @@
 // A sink of records laid end to end in memory that is handed in, and the reader of such records.
 #![tactic(auto)]
 
-mod kind;
+pub mod kind;
 mod layout;
 mod memory;
 pub mod record;

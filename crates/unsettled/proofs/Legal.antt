@@ -1,12 +1,12 @@
 -- What an illegal tag in a peer's map is, by indices.
-use Rattle.std.proofs.Common.{◌≡◌, ℕ, ◌<◌, ◌≤◌, Bool, true, false, not, ltb, List, length, get_or, take, Decides, sym, refl, ap, ◌∙◌, ⊎_elim, arith}
+use Rattle.std.proofs.Common.{◌≡◌, ℕ, ◌<◌, ◌≤◌, true, false, ltb, List, length, get_or, take, Decides, sym, refl, ap, ◌∙◌, ⊎_elim, arith}
 use Rattle.std.specs.List.{HoldsAt, range_with_len}
 use Rattle.std.proofs.lemmas.List.Folds.{Any-from_list_any, list_any_at}
 use Rattle.std.proofs.lemmas.List.FromFn.{length-range_with_len, get_or-range_with_len}
 use Rattle.std.specs.Str.{bytes_eq}
 use Rattle.std.proofs.lemmas.Slice.Eq.{bytes_eq-Decides}
 use Rattle.std.proofs.lemmas.List.{length-take-le, get_or-take, get_or_default}
-use Rattle.std.proofs.lemmas.Bool.{both_ways, not-true, not_from_false, cases_Bool, ltb-true, ltb-false, or_cases, or_parts}
+use Rattle.std.proofs.lemmas.Bool.{both_ways, false_from_ne_true, cases_Bool, ltb-true, ltb-false, or_cases, or_parts}
 use Rattle.std.proofs.lemmas.Bool.Decides.{Decides-by_or, not_from_Decides}
 use Rattle.unsettled.specs.declared.peer.PeerDelivery.{PeerDelivery}
 use Rattle.unsettled.specs.Peers.{bytes_of, among, blank, tag_at, illegal_at, illegal_tags, LegalTags}
@@ -23,7 +23,7 @@ illegal_decides ps = (
       list_any_at (illegal_at ps) (range_with_len 0 (length ps)) w.0 0 (omega (arith, w.1, length-range_with_len 0 (length ps))) (ap (illegal_at ps) k ∙ w.2),
 )
 
-among_decides : (t : List ℕ) (ps : List PeerDelivery) → Decides (among t ps) ((k : ℕ) × (k < length ps) × HoldsAt (λ p. bytes_of p ≡ t) ps k)
+pub among_decides : (t : List ℕ) (ps : List PeerDelivery) → Decides (among t ps) ((k : ℕ) × (k < length ps) × HoldsAt (λ p. bytes_of p ≡ t) ps k)
 among_decides t ps =
     Decides-by_or (λ p. bytes_eq (bytes_of p) t) (λ p. bytes_of p ≡ t) (among t) (λ p. bytes_eq-Decides (bytes_of p) t) refl (λ _ _. refl) ps
 
@@ -34,7 +34,7 @@ legal_at ps i e lt =
     let p = or_parts (ltb 32 (length (tag_at ps i))) (among (tag_at ps i) (take i ps)) f in
     (ltb-false 32 (length (tag_at ps i)) p.0, p.1)
 
-at_front : (ps : List PeerDelivery) (i j : ℕ) (d : PeerDelivery) → i < j → j ≤ length ps → bytes_of (get_or (take j ps) i d) ≡ tag_at ps i
+pub at_front : (ps : List PeerDelivery) (i j : ℕ) (d : PeerDelivery) → i < j → j ≤ length ps → bytes_of (get_or (take j ps) i d) ≡ tag_at ps i
 at_front ps i j d lt le = ap bytes_of (get_or-take j ps i d lt ∙ get_or_default ps i d blank (omega arith))
 
 legal_from : (ps : List PeerDelivery) → illegal_tags ps ≡ false → LegalTags ps
@@ -57,9 +57,8 @@ none_illegal ps h e =
     h.apart v.0 k (omega (arith, v.1)) w.1 (sym (at_front ps v.0 k blank (omega (arith, v.1)) (omega (arith, w.1))) ∙ v.2 blank))
     (or_cases (ltb 32 (length (tag_at ps k))) (among (tag_at ps k) (take k ps)) w.2)
 
--- no tag is illegal just where all are short and no two the same
-pub legal_decides : (ps : List PeerDelivery) (r : Bool) → r ≡ illegal_tags ps → Decides (not r) (LegalTags ps)
-legal_decides ps r e = (
-  λ h. legal_from ps (sym e ∙ not-true r h),
-  λ h. ⊎_elim (λ t. absurd (none_illegal ps h (sym e ∙ t))) (λ f. not_from_false r f) (cases_Bool r),
-)
+pub not_illegal : (ps : List PeerDelivery) → LegalTags ps → false ≡ illegal_tags ps
+not_illegal ps h = sym (false_from_ne_true _ (none_illegal ps h))
+
+pub is_illegal : (ps : List PeerDelivery) → (LegalTags ps → ⊥) → true ≡ illegal_tags ps
+is_illegal ps h = ⊎_elim (λ t. sym t) (λ f. absurd (h (legal_from ps f))) (cases_Bool (illegal_tags ps))

@@ -1,7 +1,11 @@
 pub mod Firsts
+pub mod Indexes
+pub mod Keyed
 pub mod Legal
 pub mod Memory
+pub mod Repeats
 pub mod Same
 pub mod Spans
+pub mod Threads
 pub mod Showing
 pub mod Gathered

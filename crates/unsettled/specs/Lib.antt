@@ -1,4 +1,8 @@
 pub mod Lists
+pub mod Threads
+pub mod Indexes
+pub mod Keys
+pub mod Keyed
 pub mod Tables
 pub mod Worklists
 pub mod Messages

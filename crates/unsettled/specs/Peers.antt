@@ -1,11 +1,12 @@
 -- The tags that a peer's attach brings.
-use Rattle.std.specs.Prelude.{ℕ, ◌<◌, ◌≤◌, Bool, cond, ◌&&◌, ◌||◌, List, [], map, length, take, Option, None, ◌≢◌, nat_le, nat_lt, slice_index_or}
+use Rattle.std.specs.Prelude.{ℕ, ◌<◌, ◌≤◌, Bool, cond, ◌&&◌, ◌||◌, List, [], map, length, take, Option, Some, None, ◌≢◌, nat_le, nat_lt, slice_index_or}
 use Rattle.std.specs.List.{list_any, range_with_len}
 use Rattle.std.specs.Str.{bytes_eq}
 use Rattle.amqp.specs.declared.state.DeliveryState.{DeliveryState}
 use Rattle.amqp.specs.Tags.{tag_from}
 use Rattle.unsettled.specs.declared.slot.Slot.{Slot}
 use Rattle.unsettled.specs.declared.peer.PeerDelivery.{PeerDelivery}
+use Rattle.unsettled.specs.Keys.{mixed}
 use Rattle.unsettled.specs.Tables.{can_put, put_in}
 
 -- a pair's tag
@@ -36,6 +37,15 @@ illegal_tags ps = list_any (illegal_at ps) (range_with_len 0 (length ps))
 pub record LegalTags (ps : List PeerDelivery) : Type 0 where
   pub short : (i : ℕ) → i < length ps → length (tag_at ps i) ≤ 32
   pub apart : (i j : ℕ) → i < j → j < length ps → tag_at ps i ≢ tag_at ps j
+
+-- each tag has at most 32 bytes, and none of the first n stands again
+pub record LegalUpTo (n : ℕ) (ps : List PeerDelivery) : Type 0 where
+  pub short : (i : ℕ) → i < length ps → length (tag_at ps i) ≤ 32
+  pub apart : (i j : ℕ) → i < n → i < j → j < length ps → tag_at ps i ≢ tag_at ps j
+
+-- a pair's key is that of its tag
+abbrev pub key_of_pair : PeerDelivery → Option ℕ
+key_of_pair p = Some (mixed (bytes_of p))
 
 -- the pairs as the slots of a table
 abbrev pub peers_of : List PeerDelivery → List (Slot (Option DeliveryState))

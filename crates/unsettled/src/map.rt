@@ -1,28 +1,48 @@
 // A table of unsettled deliveries by their tags, in lent memory (Part 2, 2.6.13).
-ghost use Rattle.std.specs.Prelude.{◌≡◌, ◌<◌, ◌≤◌, [], length, take, is_some, IfSome, if◌then◌else◌, Ok, Err};
+ghost use Rattle.std.specs.Prelude.{◌≡◌, ◌<◌, ◌≤◌, [], length, take, is_some, IfSome, if◌then◌else◌, Ok, Err, slice_set};
 ghost use Rattle.std.specs.List.{slice_get};
+ghost use Rattle.unsettled.specs.Indexes.{keys_of};
+ghost use Rattle.unsettled.specs.Keyed.{Keyed, Keyed-prop, key_of};
 
+use crate::index::{Index, PLACES, key_of_bytes};
 use crate::slot::{MapError, Slot};
 use amqp::tag::DeliveryTag;
 
-// It holds the first `len` slots. They are searched in order, in memory that is lent: a link takes no heap. It has no model:
+// It holds the first `len` slots, in memory that is lent: a link takes no heap. An index leads from a tag to its slot. It has no model:
 // clauses would say `.items` and `.room` where they say `held` and `room`. That a call keeps the room is a fact of two tables.
 #[derive(Drop)]
 pub struct UnsettledMap<'a, M> {
     slots: &'a mut [Slot<M>],
     len: usize,
+    index: Index,
     ghost fits: { len ≤ length slots.now },
+    ghost keyed: { Keyed key_of (keys_of index) len slots.now } by { Keyed-prop key_of (keys_of index) len slots.now },
+}
+
+// A slot is written, and stands under its key.
+fn write<M: Copy>(slots: &mut [Slot<M>], index: &mut Index, i: usize, slot: Slot<M>)
+    requires { i < length slots.old }
+    ensures slots { slots.new ≡ slice_set slots.old i slot }
+    ensures keys { keys_of index.new ≡ slice_set (keys_of index.old) i (key_of slot) }
+{
+    index.put(i, key_of_bytes(slot.tag.as_slice()));
+    slots[i] = slot;
 }
 
 impl<'a, M: Copy> UnsettledMap<'a, M> {
     ghost use Rattle.unsettled.specs.Tables.{held, room, full, place, look, can_put, put_in, swap_removed};
 
     // An empty table in this memory.
+    #[tactic(auto, using(crate::proofs::Keyed::keyed_none))]
     pub fn new(slots: &'a mut [Slot<M>]) -> UnsettledMap<'a, M>
         ensures holds { held result ≡ [] }
         ensures room { room result ≡ length slots.old }
     {
-        UnsettledMap { slots, len: 0 }
+        UnsettledMap {
+            slots,
+            len: 0,
+            index: Index::new(),
+        }
     }
 
     // What it holds, in order.
@@ -57,13 +77,25 @@ impl<'a, M: Copy> UnsettledMap<'a, M> {
         self.front().get(i).copied()
     }
 
-    // Where a tag stands first.
     #[tactic(auto, unfolding(crate::specs::Tables::same_tag))]
-    pub fn find(&self, tag: &DeliveryTag) -> Option<usize>
+    fn search(&self, tag: &DeliveryTag) -> Option<usize>
         ensures value { result ≡ place tag.now (held self.now) }
         ensures within { IfSome result (λ i. i < length (held self.now)) }
     {
         self.front().iter().position(|slot| slot.tag == *tag)
+    }
+
+    // Where a tag stands first. What the index cannot tell is searched for: a tag that shares its key, or one past its places.
+    pub fn find(&self, tag: &DeliveryTag) -> Option<usize>
+        ensures value { result ≡ place tag.now (held self.now) }
+        ensures within { IfSome result (λ i. i < length (held self.now)) }
+    {
+        let slots = self.front();
+        match self.index.find(key_of_bytes(tag.as_slice())) {
+            Some(i) if i < slots.len() && slots[i].tag == *tag => Some(i),
+            None if slots.len() <= PLACES => None,
+            _ => self.search(tag),
+        }
     }
 
     #[tactic(auto, using(crate::proofs::Memory::there))]
@@ -96,7 +128,7 @@ impl<'a, M: Copy> UnsettledMap<'a, M> {
         if self.is_full() {
             return Err(MapError::Full);
         }
-        self.slots[self.len] = slot;
+        write(self.slots, &mut self.index, self.len, slot);
         self.len += 1;
         Ok(())
     }
@@ -110,11 +142,14 @@ impl<'a, M: Copy> UnsettledMap<'a, M> {
     {
         let i = self.find(tag)?;
         let entry = self.slots[i].entry;
-        self.slots[i] = self.slots[self.len - 1];
+        let last = self.slots[self.len - 1];
         self.len -= 1;
+        self.index.remove(self.len);
+        write(self.slots, &mut self.index, i, last);
         Some(entry)
     }
 
+    #[tactic(auto, using(crate::proofs::Keyed::keyed_none))]
     pub fn clear(&mut self)
         ensures holds { held self.new ≡ [] }
         ensures room { room self.new ≡ room self.old }
@@ -123,6 +158,7 @@ impl<'a, M: Copy> UnsettledMap<'a, M> {
     }
 
     // Keeps the first `len` slots.
+    #[tactic(auto, using(crate::proofs::Keyed::keyed_fewer))]
     pub fn truncate(&mut self, len: usize)
         ensures holds { held self.new ≡ take len (held self.old) }
         ensures room { room self.new ≡ room self.old }

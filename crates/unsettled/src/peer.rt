@@ -1,8 +1,11 @@
 // The peer's map of unsettled deliveries, as its attach brings it (Part 2, 2.7.3).
-ghost use Rattle.std.specs.Prelude.{◌≡◌, ◌<◌, ◌≤◌, [], not, length, fold, Decides};
-ghost use Rattle.unsettled.specs.Peers.{among, illegal_at, illegal_tags, with_pair, peers_of, LegalTags};
+ghost use Rattle.std.specs.Prelude.{◌≡◌, ◌<◌, ◌≤◌, min, [], true, false, not, length, take, fold, Decides};
+ghost use Rattle.unsettled.specs.Peers.{among, tag_at, illegal_tags, with_pair, peers_of, key_of_pair, LegalTags, LegalUpTo};
+ghost use Rattle.unsettled.specs.Indexes.{keys_of};
+ghost use Rattle.unsettled.specs.Keyed.{Keyed};
 ghost use Rattle.unsettled.specs.Tables.{held, room};
 
+use crate::index::{Index, PLACES, key_of_bytes};
 use crate::map::UnsettledMap;
 use crate::slot::Slot;
 use amqp::state::DeliveryState;
@@ -24,13 +27,34 @@ fn is_among(tag: &[u8], pairs: &[PeerDelivery<'_>]) -> bool
     pairs.iter().any(|pair| pair.tag == tag)
 }
 
-// The tag at i is too long, or stands before i too.
-fn is_illegal(pairs: &[PeerDelivery<'_>], i: usize) -> bool
-    requires { i < length pairs.now }
-    ensures { result ≡ illegal_at pairs.now i }
+// The tag at i stands among the first ones before it, which an index holds.
+fn stands_before(index: &Index, pairs: &[PeerDelivery<'_>], i: usize) -> bool
+    requires place { i < length pairs.now }
+    requires keyed { Keyed key_of_pair (keys_of index.now) i pairs.now }
+    ensures { result ≡ among (tag_at pairs.now i) (take (min i 1024) pairs.now) }
 {
     let tag = pairs[i].tag;
-    tag.len() > MAX_TAG || is_among(tag, &pairs[..i])
+    match index.find(key_of_bytes(tag)) {
+        Some(j) if j < i && pairs[j].tag == tag => true,
+        None => false,
+        _ => is_among(tag, &pairs[..i.min(PLACES)]),
+    }
+}
+
+// Some tag is too long, or one of the first, as many as an index has places for, stands again.
+fn has_early_fault(pairs: &[PeerDelivery<'_>]) -> bool
+    ensures fault { result ≡ true → LegalTags pairs.now → ⊥ }
+    ensures legal { result ≡ false → LegalUpTo 1024 pairs.now }
+{
+    let mut index = Index::new();
+    for i in 0..pairs.len() {
+        let tag = pairs[i].tag;
+        if tag.len() > MAX_TAG || stands_before(&index, pairs, i) {
+            return true;
+        }
+        index.put(i, key_of_bytes(tag));
+    }
+    false
 }
 
 // Some tag is too long, or stands twice.
@@ -38,8 +62,14 @@ pub fn has_illegal_tag(pairs: &[PeerDelivery<'_>]) -> bool
     ensures value { result ≡ illegal_tags pairs.now }
     ensures legal { Decides (not result) (LegalTags pairs.now) }
 {
-    // By place, since each tag is compared with those before it.
-    (0..pairs.len()).any(|i| is_illegal(pairs, i))
+    let mut from = 0;
+    while from < pairs.len() {
+        if has_early_fault(&pairs[from..]) {
+            return true;
+        }
+        from += PLACES;
+    }
+    false
 }
 
 // Puts a pair under its tag, if the tag is short enough and the memory reaches.

@@ -1,63 +1,37 @@
-use Rattle.std.proofs.Common.{◌≡◌, ◌+◌, ◌-◌, ◌<◌, length, take, drop, Some, sym, ap, ◌∙◌, arith}
-use Rattle.std.proofs.lemmas.List.{length-drop, drop-drop}
-use Rattle.sections.proofs.Positions.{found_is_the_one}
-use Rattle.sections.proofs.Searching.{Begun, begun_here, begun_not_here, lies_here, left_at, left_found, left_more, left_none, window}
+use Rattle.std.proofs.Common.{◌∙◌}
+use Rattle.sections.proofs.Places.{Numbered, too_far, crossed, uncrossed}
+use Rattle.sections.proofs.Positions.{nowhere, here, the_only}
 use Rattle.sections.proofs.split_off_at_section_and_offset.Goals as goal
-use Rattle.sections.proofs.split_off_at_section_and_offset.Goals.{then-is_section_header, else-is_section_header, else-begun-from-via-then-begun-from+else-i-start, else-begun-from-via-else-begun-from}
 
-pub returns : goal.returns
-returns c =
-    let msg = c.args.message.now in
-    let v = c.loop-i.invariant in
-    let i = c.loop-i.i-iterator.count in
-    let short = c.in-None.ensures.steps.0.1.0 in
-    let e = sym (left_none msg c.args.place.now i (omega (arith, short, v.size, ap length v.rest, length-drop i msg))) ∙ v.left in
-    record { value = e; one = found_is_the_one msg c.args.place.now _ e }
+pub returns-in_err-start-clause-value : goal.returns-in_err-start-clause-value
+returns-in_err-start-clause-value c =
+    c.from_residual.ensures
+    ∙ nowhere c.args.message.now c.args.place.now (λ i at. c.in_err-start.ensures at.start at.begins at.number)
 
-pub returns-then-i-start : goal.returns-then-i-start
-returns-then-i-start c =
-    let msg = c.args.message.now in
-    let place = c.args.place.now in
-    let v = c.loop-i.invariant in
-    let i = c.loop-i.i-iterator.count in
-    let steps = c.in-Some.ensures.steps in
-    let cut = steps.0.1 in
-    let header = c.is_section_header.ensures ∙ window msg c.in-Some.bytes.now i (cut.1 ∙ ap (λ n. take n c.loop-i.i-iterator.iter.rest.now) v.size ∙ ap (take 3) v.rest) in
-    let inside : i < length msg - 2 = omega (arith, cut.0, v.size, ap length v.rest, length-drop i msg) in
-    let next : Begun msg (i + 1) c.if-is_section_header.begun c.if-is_section_header.start =
-    elim c.if-is_section_header.branch as (λ _. Begun msg (i + 1) c.if-is_section_header.begun c.if-is_section_header.start) [
-      | then-is_section_header w ↦ rw (w.begun-is, w.start-is ∙ steps.1) (begun_here msg i c.loop-i.begun c.loop-i.start v.begun (sym header ∙ w.if-is_section_header.true))
-      | else-is_section_header w ↦ rw (w.begun-is, w.start-is) (begun_not_here msg i c.loop-i.begun c.loop-i.start v.begun (sym header ∙ w.if-is_section_header.false))
-    ] in
-    let there = lies_here msg place i _ _ next (omega (arith, c.if-begun-from.true, c.from.ensures)) (omega (arith, steps.1, c.if-i-start.true)) in
-    let e = ap Some steps.1 ∙ sym (left_found msg place i inside there) ∙ v.left in
-    record { value = e; one = found_is_the_one msg place _ e }
+-- no position is past the message's end
+pub returns-then-place-most-clause-one : goal.returns-then-place-most-clause-one
+returns-then-place-most-clause-one c =
+    let e = c.in_ok-start.ensures in
+    too_far c.args.message.now c.args.place.now c.in_ok-start.start (record { inside = e.0; begins = e.1; number = e.2 }) c.if-place-most.true
 
-pub loop-i-preserved : goal.loop-i-preserved
-loop-i-preserved c =
-    let msg = c.args.message.now in
-    let place = c.args.place.now in
-    let v = c.loop-i.invariant in
-    let i = c.loop-i.i-iterator.count in
-    let steps = c.in-Some.ensures.steps in
-    let cut = steps.0.1 in
-    let begun = c.if-is_section_header.begun in
-    let start = c.if-is_section_header.start in
-    let header = c.is_section_header.ensures ∙ window msg c.in-Some.bytes.now i (cut.1 ∙ ap (λ n. take n c.loop-i.i-iterator.iter.rest.now) v.size ∙ ap (take 3) v.rest) in
-    let inside : i < length msg - 2 = omega (arith, cut.0, v.size, ap length v.rest, length-drop i msg) in
-    let next : Begun msg (i + 1) begun start =
-    elim c.if-is_section_header.branch as (λ _. Begun msg (i + 1) begun start) [
-      | then-is_section_header w ↦ rw (w.begun-is, w.start-is ∙ steps.1) (begun_here msg i c.loop-i.begun c.loop-i.start v.begun (sym header ∙ w.if-is_section_header.true))
-      | else-is_section_header w ↦ rw (w.begun-is, w.start-is) (begun_not_here msg i c.loop-i.begun c.loop-i.start v.begun (sym header ∙ w.if-is_section_header.false))
-    ] in
-    let not_both : (begun ≡ place.section_number + 1) × (i - start ≡ place.section_offset) → ⊥ =
-    elim c.else-begun-from.branch as (λ _. (begun ≡ place.section_number + 1) × (i - start ≡ place.section_offset) → ⊥) [
-      | else-begun-from-via-then-begun-from+else-i-start w ↦ λ h. w.if-i-start.false (omega (arith, steps.1, h.1))
-      | else-begun-from-via-else-begun-from w ↦ λ h. w.if-begun-from.false (omega (arith, h.0, c.from.ensures))
-    ] in
-    record {
-      size = steps.0.0 ∙ v.size;
-      rest = cut.2 ∙ ap (drop 1) v.rest ∙ drop-drop 1 i msg ∙ ap (λ k. drop k msg) (sym steps.2);
-      begun = rw steps.2 next;
-      left = ap (left_at msg place) steps.2 ∙ left_more msg place i begun start inside next not_both ∙ v.left;
-    }
+pub returns-then-place-most-clause-value : goal.returns-then-place-most-clause-value
+returns-then-place-most-clause-value c = nowhere c.args.message.now c.args.place.now (returns-then-place-most-clause-one c)
+
+-- nor past another section's beginning
+pub returns-in-Some-clause-one : goal.returns-in-Some-clause-one
+returns-in-Some-clause-one c =
+    let e = c.in_ok-start.ensures in
+    let n = c.in-Some.ensures in
+    crossed c.args.message.now c.args.place.now c.in_ok-start.start c.in-Some.field-0 (record { inside = e.0; begins = e.1; number = e.2 }) c.if-place-most.false n.0 n.1 n.2
+
+pub returns-in-Some-clause-value : goal.returns-in-Some-clause-value
+returns-in-Some-clause-value c = nowhere c.args.message.now c.args.place.now (returns-in-Some-clause-one c)
+
+pub returns-in-None-clause-one : goal.returns-in-None-clause-one
+returns-in-None-clause-one c =
+    let e = c.in_ok-start.ensures in
+    let s : Numbered c.args.message.now c.args.place.now c.in_ok-start.start = record { inside = e.0; begins = e.1; number = e.2 } in
+    the_only c.args.message.now c.args.place.now _ (uncrossed c.args.message.now c.args.place.now c.in_ok-start.start s c.if-place-most.false c.in-None.ensures)
+
+pub returns-in-None-clause-value : goal.returns-in-None-clause-value
+returns-in-None-clause-value c = here c.args.message.now c.args.place.now _ (returns-in-None-clause-one c).0

@@ -1,6 +1,8 @@
 use Rattle.std.proofs.Common.{Ok, sym, ap, ◌∙◌}
 use Rattle.std.proofs.lemmas.Result.{err_from_is_err_and}
 use Rattle.link.specs.Seats.{seated}
+use Rattle.unsettled.specs.Indexes.{keys_of}
+use Rattle.link.proofs.Seating.{vacated_keyed}
 use Rattle.link.proofs.Places.{seat_at, seat_nowhere}
 use Rattle.link.proofs.seat.Seats.vacate.Goals as goal
 
@@ -13,3 +15,8 @@ pub returns-clause-answer : goal.returns-clause-answer
 returns-clause-answer c =
     ap Ok c.outcome.ensures
     ∙ seat_at c.args.number (seated c.args.self.now) c.find.result c.in_ok-i.i _ c.find.ensures.found (sym c.ok_or.ensures.value ∙ c.in_ok-i.was)
+
+pub invariant_of-self-2-clause-keyed : goal.invariant_of-self-2-clause-keyed
+invariant_of-self-2-clause-keyed c =
+    let s = c.args.self.now in
+    rw (c.write.ensures.seats, c.write.ensures.keys) (vacated_keyed c.args.number (keys_of s.index) s.seats.now c.find.result c.in_ok-i.i s.keyed c.find.ensures.found (sym c.ok_or.ensures.value ∙ c.in_ok-i.was))

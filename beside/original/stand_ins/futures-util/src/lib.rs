@@ -1,0 +1,3 @@
+//! Stands for the crate `futures-util`.
+
+pub use std::future::Future;

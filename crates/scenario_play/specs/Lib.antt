@@ -1,0 +1,15 @@
+pub mod Chosens
+pub mod Outlets
+pub mod Tickets
+pub mod Scenes
+pub mod Answers
+pub mod Looks
+pub mod Puts
+pub mod Snapshots
+pub mod Texts
+pub mod Lines
+pub mod Keeping
+pub mod Comebacks
+pub mod Stages
+pub mod Attaches
+pub mod Performing

@@ -1,0 +1,49 @@
+// A scenario played once for each of its steps, with a break there.
+use crate::files::Files;
+use crate::play::Course;
+use crate::trouble::Failure;
+use std::alloc::Global;
+use std::{fmt, io};
+
+// How many places there were to break, and at how many a ticket was lost.
+#[derive(Clone, Copy, Debug, PartialEq, Eq, Default)]
+pub struct Breaks {
+    pub places: u64,
+    pub lost: u64,
+}
+
+impl fmt::Display for Breaks {
+    fn fmt<W: fmt::Write>(&self, f: &mut fmt::Formatter<W>) -> fmt::Result {
+        let places = self.places;
+        let lost = self.lost;
+        let kept = places.saturating_sub(lost);
+        write!(
+            f,
+            "{places} places, {kept} with every ticket told or kept, {lost} with one lost"
+        )
+    }
+}
+
+// Plays a scenario with a break after so many steps: how many there were, and whether no ticket was lost.
+fn rehearse<F: Files>(
+    heap: Global,
+    scenario: &[u8],
+    files: &F,
+    break_after: Option<u64>,
+) -> Result<(u64, bool), Failure> {
+    let mut unheard = io::sink();
+    let mut course = Course::new(heap, scenario, files, &mut unheard, break_after);
+    course.run()?;
+    Ok((course.steps(), course.is_kept()))
+}
+
+// Plays a scenario anew for each of its steps, breaks the link there, and goes on.
+pub fn play_breaks<F: Files>(heap: Global, scenario: &[u8], files: &F) -> Result<Breaks, Failure> {
+    let (places, _) = rehearse(heap, scenario, files, None)?;
+    let mut breaks = Breaks { places, lost: 0 };
+    for step in 0..places {
+        let (_, is_kept) = rehearse(heap, scenario, files, Some(step + 1))?;
+        breaks.lost = breaks.lost.saturating_add(u64::from(!is_kept));
+    }
+    Ok(breaks)
+}

@@ -1,0 +1,16 @@
+// A scenario played: a link carried through a list of calls, and what each call answers.
+#![tactic(auto)]
+
+pub mod answer;
+pub mod breaks;
+pub mod chosen;
+pub mod files;
+mod lines;
+pub mod outlet;
+mod parts;
+pub mod play;
+pub mod player;
+pub mod snapshot;
+mod stage;
+mod tickets;
+pub mod trouble;

@@ -1,0 +1,14 @@
+pub mod Causes
+pub mod Closings
+pub mod Conditions
+pub mod Cuts
+pub mod Digits
+pub mod Lines
+pub mod Lists
+pub mod Numbers
+pub mod Outcomes
+pub mod Parts
+pub mod Reading
+pub mod States
+pub mod Tags
+pub mod Takings

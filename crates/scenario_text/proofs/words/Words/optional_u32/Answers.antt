@@ -1,0 +1,7 @@
+use Rattle.scenario_text.specs.Shown.{number_or_none}
+use Rattle.scenario_text.proofs.Takings.{takes_read}
+use Rattle.scenario_text.proofs.words.Words.optional_u32.Goals as goal
+
+pub returns : goal.returns
+unfolding number_or_none
+returns c = takes_read _ _ _ _ _ _ _ _ _ c.ok_or.ensures.value c.read_optional_u32.ensures c.in_ok-value.ensures

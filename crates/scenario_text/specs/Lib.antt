@@ -1,0 +1,12 @@
+pub mod Reading
+pub mod Values
+pub mod Reasons
+pub mod Names
+pub mod Words
+pub mod Commands
+pub mod Lists
+pub mod Shown
+pub mod Bytes
+pub mod Peers
+pub mod Faults
+pub mod Parsing
