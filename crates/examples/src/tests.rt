@@ -1,11 +1,12 @@
 use amqp::error::SendError;
 use codec::compact::Compact;
 use link::flow::LinkFlow;
+use memory::LinkMemory;
 use queue::queue::Queue;
 use sender::ticket::Settlement;
 use shipping::archive::Archive;
 use shipping::dock::Dock;
-use shipping::dock::opening::{LinkMemory, answering, empty_queue, settings_for};
+use shipping::dock::opening::{answering, empty_queue, settings_for};
 use shipping::dock::sending::plain;
 use shipping::outbox::Outbox;
 use shipping::report::Shipment;

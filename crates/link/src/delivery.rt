@@ -35,7 +35,7 @@ pub struct Disposal {
 #[derive(Clone, Copy, PartialEq, Eq)]
 pub enum Outcome {
     State(DeliveryState),
-    // It was settled, and no state was ever told.
+    // It was settled with no state, and no outcome was told before.
     NoState,
     // The peer closed the link before it was settled.
     RemoteClosed,

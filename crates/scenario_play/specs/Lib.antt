@@ -10,6 +10,6 @@ pub mod Texts
 pub mod Lines
 pub mod Keeping
 pub mod Comebacks
-pub mod Stages
+pub mod Sinks
 pub mod Attaches
 pub mod Performing

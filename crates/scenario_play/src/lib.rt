@@ -10,7 +10,7 @@ pub mod outlet;
 mod parts;
 pub mod play;
 pub mod player;
+mod sinks;
 pub mod snapshot;
-mod stage;
 mod tickets;
 pub mod trouble;

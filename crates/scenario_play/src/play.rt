@@ -5,14 +5,15 @@ use crate::lines::Lines;
 use crate::outlet::Outlet;
 use crate::player::Player;
 use crate::player::performing::word;
-use crate::stage::{Stage, make_queue, make_spool};
+use crate::sinks::{make_queue, make_spool};
 use crate::trouble::{Failure, Trouble};
 use amqp::error::MakeError;
-use scenario_text::command::Command;
+use memory::LinkMemory;
+use scenario_text::command::{Command, LinkSizes};
 use scenario_text::parse::parse;
 use scenario_text::peers::PeerList;
 use sender::sender_link::SenderLink;
-use std::alloc::Global;
+use std::alloc::{AllocError, Global};
 use std::io::{BufRead, Write};
 
 // A scenario while it is played, and where its link is to break.
@@ -39,6 +40,10 @@ fn next_command<'l, R: BufRead + Drop>(
         return Ok(None);
     }
     Ok(parse(lines.text()?, list)?)
+}
+
+fn memory_for(heap: Global, sizes: &LinkSizes) -> Result<LinkMemory, AllocError> {
+    LinkMemory::with_rooms(heap, sizes.table, sizes.resume, sizes.resend, sizes.seats)
 }
 
 fn refused(e: MakeError) -> Answer {
@@ -82,8 +87,8 @@ impl<'p, R: BufRead + Drop, F: Files, W: Write> Course<'p, R, F, W> {
         let Some(Command::Link(sizes)) = next_command(&mut self.lines, &mut self.list)? else {
             return Err(Trouble::NoLink);
         };
-        let mut stage = Stage::new(self.heap, &sizes)?;
-        match stage.link(&sizes) {
+        let mut memory = memory_for(self.heap, &sizes)?;
+        match memory.link(sizes.settings, sizes.initial_delivery_count) {
             Ok(link) => {
                 self.tell("link", &Answer::Made)?;
                 self.make_sink(link)
@@ -101,12 +106,12 @@ impl<'p, R: BufRead + Drop, F: Files, W: Write> Course<'p, R, F, W> {
                     memory,
                 },
             ) => match make_queue(self.heap, places, widest, memory)? {
-                Ok(queue) => self.go_on_stage("queue", link, queue),
+                Ok(queue) => self.go_on_with("queue", link, queue),
                 Err(e) => self.tell("queue", &refused(e)),
             },
             Some(Command::Spool { memory, widest }) => {
                 match make_spool(self.heap, memory, widest)? {
-                    Ok(spool) => self.go_on_stage("spool", link, spool),
+                    Ok(spool) => self.go_on_with("spool", link, spool),
                     Err(e) => self.tell("spool", &refused(e)),
                 }
             }
@@ -115,7 +120,7 @@ impl<'p, R: BufRead + Drop, F: Files, W: Write> Course<'p, R, F, W> {
     }
 
     // Whatever comes of the lines, the tickets that are held at the end are collected.
-    fn go_on_stage<S: Outlet>(
+    fn go_on_with<S: Outlet>(
         &mut self,
         word: &str,
         link: SenderLink<'_>,

@@ -7,9 +7,10 @@ mod spooling;
 use crate::breaking::run_breaking;
 use crate::spooling::SpoolFile;
 use codec::compact::Compact;
+use memory::LinkMemory;
 use queue::queue::Queue;
 use shipping::dock::Dock;
-use shipping::dock::opening::LinkMemory;
+use shipping::dock::opening::ENTRIES;
 use shipping::options::{Options, parse, spool_file};
 use shipping::outbox::Outbox;
 use shipping::report::{ShipError, Totals};
@@ -82,7 +83,7 @@ fn run<S: Outbox, W: Write + Drop>(
     spool: &mut SpoolFile<W>,
 ) -> Result<(), Failed> {
     let heap = rt.alloc();
-    let mut memory = LinkMemory::new(heap).map_err(|_| fail(rt, ShipError::NoMemory))?;
+    let mut memory = LinkMemory::with_entries(heap, ENTRIES).map_err(|_| fail(rt, ShipError::NoMemory))?;
     let opened: Result<Dock<'_, S>, ShipError> = Dock::open(
         heap,
         &mut memory,

@@ -9,17 +9,11 @@ use Rattle.link.specs.declared.seat.Seat.TheVariants.{Free}
 use Rattle.link.specs.declared.settings.Settings.{Settings}
 use Rattle.link.specs.declared.state.LinkState.TheVariants.{Attached}
 use Rattle.link.specs.Views.{View, Rooms, empty, bad_sizes}
-use Rattle.sender.specs.Views.{rooms_of}
-use Rattle.shipping.specs.declared.dock.opening.LinkMemory.{LinkMemory}
+use Rattle.memory.specs.declared.LinkMemory.{LinkMemory}
+use Rattle.memory.specs.Sizes.{rooms_in, seats_in}
 use Rattle.shipping.specs.declared.report.ShipError.{ShipError}
 use Rattle.shipping.specs.declared.report.ShipError.TheVariants.{Refused, NoMemory, Link}
 use Rattle.shipping.specs.Docks.{Docked, AtRest}
-
-abbrev pub rooms_in : LinkMemory → Rooms
-rooms_in m = rooms_of (vec_len m.table) (vec_len m.resume) (vec_len m.resend)
-
-abbrev pub seats_in : LinkMemory → ℕ
-seats_in m = vec_len m.seats
 
 -- every delivery is unsettled, the receiver settles first, and no message is too long
 abbrev pub settings_for : (frame : ℕ) → Settings

@@ -4,7 +4,7 @@ ghost use Rattle.std.specs.Prelude.{◌+◌, ◌≤◌};
 use crate::berth::Berth;
 use amqp::state::{DeliveryState, Received};
 use amqp::tag::DeliveryTag;
-use shipping::dock::opening::LinkMemory;
+use memory::LinkMemory;
 use std::alloc::Global;
 
 // The most entries of a table.

@@ -7,10 +7,11 @@ use amqp::state::DeliveryState;
 use amqp::tag::DeliveryTag;
 use codec::compact::Compact;
 use link::delivery::Outcome;
+use memory::LinkMemory;
 use queue::queue::Queue;
 use sender::sender_link::SenderLink;
 use sender::ticket::Settlement;
-use shipping::dock::opening::{LinkMemory, answering, settings_for};
+use shipping::dock::opening::{ENTRIES, answering, settings_for};
 use shipping::dock::sending::plain;
 use spool::spool::Spool;
 use std::alloc::Global;
@@ -73,7 +74,7 @@ fn run<S: Outlet>(
 ) -> u64
     ensures { result ≤ count }
 {
-    let Ok(mut memory) = LinkMemory::new(heap) else {
+    let Ok(mut memory) = LinkMemory::with_entries(heap, ENTRIES) else {
         return 0;
     };
     let Ok(mut link) = memory.link(settings_for(frame), 0) else {

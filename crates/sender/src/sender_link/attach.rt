@@ -31,6 +31,9 @@ use unsettled::worklist::Worklist;
 // The most pairs of the peer's map of unsettled deliveries.
 const MOST_PAIRS: usize = 1024;
 
+// So many take a small table: laying out the largest takes longer than all else that an attach with few pairs does.
+const FEW_PAIRS: usize = 16;
+
 fn list(resume: &mut Worklist<'_, ResumingDelivery>, item: ResumingDelivery)
     requires { length (items resume.old) + 1 ≤ space resume.old }
     ensures listed { items resume.new ≡ items resume.old ++ item ∷ [] }
@@ -139,14 +142,14 @@ impl<'a> SenderLink<'a> {
         }
     }
 
-    // The table is emptied, and each of its deliveries waits for its turn or has ended.
-    fn resume_all(&mut self, attach: &Attach<'_>)
+    // The table is emptied, and each of its deliveries waits for its turn or has ended. The peer's pairs are at most N.
+    fn resume_with<const N: usize>(&mut self, attach: &Attach<'_>)
         requires legal { LegalTags attach.now.unsettled.now }
-        requires few { length attach.now.unsettled.now ≤ 1024 }
+        requires few { length attach.now.unsettled.now ≤ N }
         requires room { length self.old.held.resume + length self.old.held.table ≤ self.old.rooms.resume }
         ensures { self.new ≡ landed self.old (holding self.old (resumed self.old attach.now) (flat_map (end_of attach.now) self.old.held.table)) }
     {
-        let mut slots = [Slot::default(); MOST_PAIRS];
+        let mut slots = [Slot::default(); N];
         let remote = peer_map(&mut slots, attach.unsettled);
         resume_slots(
             &mut self.resume,
@@ -155,6 +158,19 @@ impl<'a> SenderLink<'a> {
             &remote,
         );
         self.unsettled.clear();
+    }
+
+    fn resume_all(&mut self, attach: &Attach<'_>)
+        requires legal { LegalTags attach.now.unsettled.now }
+        requires few { length attach.now.unsettled.now ≤ 1024 }
+        requires room { length self.old.held.resume + length self.old.held.table ≤ self.old.rooms.resume }
+        ensures { self.new ≡ landed self.old (holding self.old (resumed self.old attach.now) (flat_map (end_of attach.now) self.old.held.table)) }
+    {
+        if attach.unsettled.len() <= FEW_PAIRS {
+            self.resume_with::<FEW_PAIRS>(attach);
+        } else {
+            self.resume_with::<MOST_PAIRS>(attach);
+        }
     }
 
     // The peer's attach has come. Where it has no target, or wants another settlement, the refusal leaves the link moved.

@@ -1,6 +1,7 @@
 use Rattle.std.proofs.Common.{◌≡◌, ℕ, ◌^◌, ◌<◌, max, ap, ◌∙◌}
 use Rattle.sink.specs.Frames.{empty}
-use Rattle.shipping.specs.Openings.{rooms_in, seats_in, frame_cap, opened}
+use Rattle.memory.specs.Sizes.{rooms_in, seats_in}
+use Rattle.shipping.specs.Openings.{frame_cap, opened}
 use Rattle.shipping.proofs.Attaches.{credited, at_rest}
 use Rattle.shipping.proofs.dock.Dock.open.Goals as goal
 

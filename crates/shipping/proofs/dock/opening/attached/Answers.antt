@@ -1,7 +1,7 @@
 use Rattle.std.proofs.Common.{ap, ◌∙◌}
 use Rattle.link.specs.declared.settings.Settings.{Settings}
 use Rattle.link.specs.Views.{fresh}
-use Rattle.shipping.specs.Openings.{rooms_in, seats_in}
+use Rattle.memory.specs.Sizes.{rooms_in, seats_in}
 use Rattle.shipping.proofs.Attaches.{new_link}
 use Rattle.shipping.proofs.dock.opening.attached.Goals as goal
 

@@ -1,22 +1,13 @@
--- What a scenario's sizes ask for: memory, and what is made of it.
-use Rattle.std.specs.Prelude.{◌≡◌, ℕ, ◌≤◌, ◌<◌, Result, Ok, Err, vec_len}
+-- The sinks that a scenario asks for.
+use Rattle.std.specs.Prelude.{◌≡◌, ℕ, ◌≤◌, ◌<◌, Result, Ok, Err}
 use Rattle.amqp.specs.declared.error.MakeError.{MakeError}
 use Rattle.amqp.specs.declared.error.MakeError.TheVariants.{Sizes}
-use Rattle.link.specs.Views.{Rooms}
 use Rattle.queue.specs.declared.queue.Queue.{Queue}
 use Rattle.queue.specs.Queues.{model_of as queue_model}
 use Rattle.queue.specs.Rings.{InBounds}
-use Rattle.sender.specs.Views.{rooms_of}
 use Rattle.sink.specs.Frames.{empty}
 use Rattle.spool.specs.declared.spool.Spool.{Spool}
 use Rattle.spool.specs.Spools.{model_of as spool_model, room_for}
-use Rattle.scenario_play.specs.declared.stage.Stage.{Stage}
-
-abbrev pub rooms_in : Stage → Rooms
-rooms_in m = rooms_of (vec_len m.table) (vec_len m.resume) (vec_len m.resend)
-
-abbrev pub seats_in : Stage → ℕ
-seats_in m = vec_len m.seats
 
 -- an empty queue exactly where the sizes are in bounds
 abbrev pub QueueMade : (places widest memory : ℕ) → Result Queue MakeError → Type 0
