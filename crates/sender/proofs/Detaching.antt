@@ -99,20 +99,6 @@ module _ {X : Type 0} (g : List X → List Entry) (hom : (xs ys : List X) → g 
             ∙ ap (take (length ts)) (j.front ∙ h.there) ∙ take_at ts (g (take i xs)) (length ts) refl;
       }
 
--- all have joined it
-pub join_ends : {X : Type 0} (g : List X → List Entry) (xs : List X) (n : ℕ) → length xs ≤ n → (ts ys : List Entry) → Joining ts (g (take n xs)) ys → Joined ts (g xs) (Ok tt) ys
-join_ends g xs n l ts ys h =
-    let e = ap g (take_all n xs l) in
-    let t = h.there ∙ ap (λ es. ts ++ es) e in
-    record {
-      answer = sym (ap (λ b. gated (row b fault.TagInTable) tt) (ap (λ es. clash es ts) (sym e) ∙ h.apart));
-      joined = λ _. t;
-      front = ap (take (length ts)) t ∙ take_at ts (g xs) (length ts) refl;
-    }
-
-pub none_joined : (ts ys : List Entry) → ys ≡ ts → Joining ts [] ys
-none_joined ts ys e = record { apart = refl; there = e ∙ sym (append-nil ts) }
-
 -- one list after the other
 pub joined_first : (ts xs ys zs : List Entry) (e : ApplyRemoteDetachError) → Joined ts xs (Err e) zs → Joined ts (xs ++ ys) (Err e) zs
 joined_first ts xs ys zs e h =
