@@ -2,7 +2,7 @@
 use Rattle.std.proofs.Common.{◌≡◌, ℕ, suc, ◌+◌, ◌<◌, ◌≤◌, Bool, true, false, ◌||◌, List, [], ◌∷◌, ◌++◌, length, get_or, take, drop, is_some, Some, Ok, Err, Result, sym, refl, ap, ◌∙◌, arith, true≢false, length-append}
 use Rattle.std.proofs.Math.Seq.{drop-cons}
 use Rattle.std.proofs.lemmas.List.Elements.{filter_map-append}
-use Rattle.std.proofs.lemmas.List.{take_more, take_all, take-take, take_at, take-append-drop, append-nil, append_assoc, map-append}
+use Rattle.std.proofs.lemmas.List.{take_more, take-take, take_at, take-append-drop, append-nil, append_assoc, map-append}
 use Rattle.amqp.specs.declared.error.ApplyRemoteDetachError.{ApplyRemoteDetachError}
 use Rattle.amqp.specs.declared.error.ApplyRemoteDetachError.TheVariants as fault
 use Rattle.unsettled.specs.Tables.{look}
