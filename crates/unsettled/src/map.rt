@@ -79,6 +79,7 @@ impl<'a, M: Copy> UnsettledMap<'a, M> {
     }
 
     // Where a tag stands first. What the index cannot tell is searched for: a tag that shares its key, or one past its places.
+    // A place past the last slot was left by a tag that is there no more.
     pub fn find(&self, tag: &DeliveryTag) -> Option<usize>
         ensures value { result ≡ place tag.now (held self.now) }
         ensures within { IfSome result (λ i. i < length (held self.now)) }
@@ -86,6 +87,7 @@ impl<'a, M: Copy> UnsettledMap<'a, M> {
         let slots = self.front();
         match self.index.find(key_of_bytes(tag.as_slice())) {
             Some(i) if i < slots.len() && slots[i].tag == *tag => Some(i),
+            Some(i) if i >= slots.len() => None,
             None if slots.len() <= PLACES => None,
             _ => self.search(tag),
         }
