@@ -146,8 +146,7 @@ entry_new v false os h k = (another send.TableFull _ (λ e. cc, λ e. cc), (unme
 send_new : (v : View) (c : Carrier) (m : Sendable) → Sound v → New (send_refusal v c m)
 send_new v c m h =
     first_neither
-    (own_rows v c m ++ sink_row c.sink (share_for v c m) (payload c m) ∷ [])
-    (
+    (own_rows v c m ++ sink_row c.sink (share_for v c m) (payload c m) ∷ []) (
       another (send.LinkState IllegalState) _ (λ e. cc, λ e. cc),
       (
         another send.ListsNotEmpty _ (λ e. cc, λ e. cc),
