@@ -1,1 +1,3 @@
 pub mod Spacing
+pub mod Collecting
+pub mod Blanks

@@ -1,5 +1,8 @@
 // The lines of a scenario, one after the other in the same memory.
-ghost use Rattle.std.specs.Prelude.{◌≡◌, ◌+◌, ◌≤◌, min, vec_len, OnOk};
+ghost use Rattle.std.specs.Prelude.{◌≡◌, ◌+◌, ◌≤◌, [], true, false, min, nat_lt, vec_len, vec_items, Ok, OnOk, IfOk, IsUtf8, MatchResult};
+ghost use Rattle.std.specs.Io.{StopsAt};
+ghost use Rattle.scenario_play.specs.Remarks.{says_nothing};
+ghost use Rattle.scenario_play.specs.declared.trouble.Trouble.TheVariants.{NoText};
 
 use crate::trouble::Trouble;
 use std::alloc::Global;
@@ -38,6 +41,8 @@ impl<R: BufRead + Drop> Lines<R> {
     fn read(&mut self) -> Result<bool, Trouble>
         ensures number { self.new.number ≡ min (self.old.number + 1) 18446744073709551615 }
         ensures bound { OnOk result (vec_len self.new.line ≤ 140001024) }
+        ensures stops { StopsAt (vec_items self.new.line) 10 }
+        ensures more { IfOk result (λ more. more ≡ nat_lt 0 (vec_len self.new.line)) }
     {
         self.line.clear();
         self.number = self.number.saturating_add(1);
@@ -50,13 +55,20 @@ impl<R: BufRead + Drop> Lines<R> {
     }
 
     // It is blank, or a comment.
-    fn is_passed_over(&self) -> bool {
-        matches!(self.line.trim_ascii(), [] | [b'#', ..])
+    fn is_passed_over(&self) -> bool
+        ensures { result ≡ says_nothing (vec_items self.now.line) }
+    {
+        match self.line.trim_ascii_start().first() {
+            Some(first) => *first == b'#',
+            None => true,
+        }
     }
 
     // Whether there is another line that is neither blank nor a comment, which is read then.
     pub fn advance(&mut self) -> Result<bool, Trouble>
-        ensures { OnOk result (vec_len self.new.line ≤ 140001024) }
+        ensures bound { OnOk result (vec_len self.new.line ≤ 140001024) }
+        ensures told { result ≡ Ok true → says_nothing (vec_items self.new.line) ≡ false }
+        ensures over { result ≡ Ok false → vec_items self.new.line ≡ [] }
     {
         for _ in 0..u64::MAX {
             if !self.read()? {
@@ -69,7 +81,13 @@ impl<R: BufRead + Drop> Lines<R> {
         Err(Trouble::TooLong)
     }
 
-    pub fn text(&self) -> Result<&str, Trouble> {
-        str::from_utf8(self.line.as_slice()).map_err(|_| Trouble::NoText)
+    // The line, which has to be text.
+    pub fn text(&self) -> Result<&str, Trouble>
+        ensures { MatchResult result (λ t. t.now ≡ vec_items self.now.line) (λ e. (e ≡ NoText) × ¬ (IsUtf8 (vec_items self.now.line))) }
+    {
+        match str::from_utf8(self.line.as_slice()) {
+            Ok(text) => Ok(text),
+            Err(_) => Err(Trouble::NoText),
+        }
     }
 }
