@@ -14,6 +14,6 @@ pub mod Sinks
 pub mod Attaches
 pub mod Troubles
 pub mod Breaks
-pub mod Remarks
+pub mod Inputs
 pub mod Playing
 pub mod Performing

@@ -4,6 +4,7 @@ ghost use Rattle.std.specs.Io.KnownBytes.{Appends};
 ghost use Rattle.scenario_text.specs.Commands.{IsCommand};
 ghost use Rattle.scenario_play.specs.Answers.{unmade};
 ghost use Rattle.scenario_play.specs.Comebacks.{Holding};
+ghost use Rattle.scenario_play.specs.Inputs.{Advances};
 ghost use Rattle.scenario_play.specs.Keeping.{all_kept};
 ghost use Rattle.scenario_play.specs.Playing.{answer_line, PlaysLine};
 
@@ -84,6 +85,7 @@ impl<'p, R: BufRead + Drop, F: Files, W: Write> Course<'p, R, F, W> {
     ) -> Course<'p, R, F, W>
         ensures begun { (result.steps ≡ 0) × (result.is_kept ≡ true) }
         ensures break_after { result.break_after ≡ break_after }
+        ensures input { result.lines.input.reader ≡ input }
         ensures given { (result.files ≡ files.entry) × (result.out ≡ out.entry) }
     {
         Course {
@@ -187,6 +189,7 @@ impl<'p, R: BufRead + Drop, F: Files, W: Write> Course<'p, R, F, W> {
     // The next line, if there is one: it stands in the memory then.
     fn step<S: Outlet>(&mut self, player: &mut Player<'_, S>) -> Result<bool, Trouble>
         ensures played { result ≡ Ok true → PlaysLine S.Outlet.framewise (F.holds self.old.files.now) (vec_items self.new.lines.line) player.old player.new (W.contents self.old.out.now) (W.contents self.new.out.now) }
+        ensures next { IfOk result (λ more. Advances more (vec_items self.new.lines.line) (R.remaining self.old.lines.input.reader) (R.remaining self.new.lines.input.reader)) }
         ensures over { result ≡ Ok false → (player.new ≡ player.old) × (self.new.out.now ≡ self.old.out.now) }
         ensures counted { IfOk result (λ more. self.new.steps ≡ (if more then min (self.old.steps + 1) 18446744073709551615 else self.old.steps)) }
     {

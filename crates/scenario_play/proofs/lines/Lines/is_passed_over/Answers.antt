@@ -1,6 +1,6 @@
 use Rattle.std.proofs.Common.{Some, None, ap, sym, ◌∙◌}
 use Rattle.std.specs.Option.{option_copied}
-use Rattle.scenario_play.specs.Remarks.{says_nothing}
+use Rattle.scenario_play.specs.Inputs.{says_nothing}
 use Rattle.scenario_play.proofs.Blanks.{passed_over}
 use Rattle.scenario_play.proofs.lines.Lines.is_passed_over.Goals as goal
 
