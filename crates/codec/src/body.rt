@@ -1,5 +1,5 @@
 // The fields of a list, met one by one: absent ones wait, since a terse form leaves out those at the end.
-ghost use Rattle.std.specs.Prelude.{◌≡◌, ◌+◌, ◌<◌, ◌≤◌};
+ghost use Rattle.std.specs.Prelude.{◌≡◌, ◌+◌, ◌<◌, ◌≤◌, []};
 ghost use Rattle.arrayvec.specs.ArrayVec.{array_vec_len};
 ghost use Rattle.codec.specs.Bodies.{met, none_met, skipped, with_nulls, begun, ended, closed, Empty, Room, Grew};
 ghost use Rattle.codec.specs.Descriptors.{descriptor_code};
@@ -76,20 +76,20 @@ impl<F: Form> Body<F> {
         }
     }
 
-    // The list of these fields, described: 0x00, the descriptor and the list (Part 1, 1.2).
-    pub(crate) fn close(mut self, descriptor: Descriptor) -> Scratch
-        requires few { self.count + self.gap < 16 }
-        requires len { array_vec_len self.bytes + self.gap ≤ 230 }
-        ensures made { result.items ≡ closed F.Form.form (descriptor_code descriptor) (met self) }
-        ensures len { array_vec_len result ≤ array_vec_len self.bytes + self.gap + 19 }
+    // The list of these fields, described: 0x00, the descriptor and the list (Part 1, 1.2). It is written to memory of the caller's,
+    // since a value of 256 bytes that is handed back is copied.
+    pub(crate) fn close(&mut self, descriptor: Descriptor, list: &mut Scratch)
+        requires few { self.old.count + self.old.gap < 16 }
+        requires len { array_vec_len self.old.bytes + self.old.gap ≤ 230 }
+        requires empty { list.old.items ≡ [] }
+        ensures made { list.new.items ≡ closed F.Form.form (descriptor_code descriptor) (met self.old) }
+        ensures len { array_vec_len list.new ≤ array_vec_len self.old.bytes + self.old.gap + 19 }
     {
         self.end();
         let fields = self.bytes.as_slice();
-        let mut list = Scratch::new();
         list.push(0x00);
-        F::ulong(&mut list, descriptor.code());
-        F::list(&mut list, self.count, fields.len() as u8);
-        append(&mut list, fields);
-        list
+        F::ulong(list, descriptor.code());
+        F::list(list, self.count, fields.len() as u8);
+        append(list, fields);
     }
 }

@@ -1,5 +1,5 @@
 // Headers: described lists of their fields (Part 2, 2.7.5 and 2.7.6).
-ghost use Rattle.std.specs.Prelude.{◌≡◌};
+ghost use Rattle.std.specs.Prelude.{◌≡◌, []};
 ghost use Rattle.amqp.specs.declared.header.Header.TheVariants as header;
 ghost use Rattle.codec.specs.Values.{header_value};
 ghost use Rattle.codec.specs.Bodies.{Encodes};
@@ -17,8 +17,9 @@ use crate::scratch::{Scratch, copy_to};
 use amqp::error::MemoryError;
 use amqp::header::{Disposition, Header, Transfer};
 
-fn transfer<F: Form>(h: &Transfer) -> Scratch
-    ensures { Encodes F.Form.form 155 (header_value F.Form.form.terse (header.Transfer h.now)) result }
+fn transfer<F: Form>(h: &Transfer, list: &mut Scratch)
+    requires { list.old.items ≡ [] }
+    ensures { Encodes F.Form.form 155 (header_value F.Form.form.terse (header.Transfer h.now)) list.new }
 {
     let mut body = Body::<F>::new();
     h.handle.append_to(&mut body);
@@ -33,11 +34,12 @@ fn transfer<F: Form>(h: &Transfer) -> Scratch
     Flag(h.resume).append_to(&mut body);
     Flag(h.aborted).append_to(&mut body);
     Flag(h.batchable).append_to(&mut body);
-    body.close(Descriptor::Transfer)
+    body.close(Descriptor::Transfer, list);
 }
 
-fn disposition<F: Form>(h: &Disposition) -> Scratch
-    ensures { Encodes F.Form.form 155 (header_value F.Form.form.terse (header.Disposition h.now)) result }
+fn disposition<F: Form>(h: &Disposition, list: &mut Scratch)
+    requires { list.old.items ≡ [] }
+    ensures { Encodes F.Form.form 155 (header_value F.Form.form.terse (header.Disposition h.now)) list.new }
 {
     let mut body = Body::<F>::new();
     // The role: a sender's is false.
@@ -48,15 +50,16 @@ fn disposition<F: Form>(h: &Disposition) -> Scratch
     Flag(h.settled).append_to(&mut body);
     h.state.append_to(&mut body);
     Flag(h.batchable).append_to(&mut body);
-    body.close(Descriptor::Disposition)
+    body.close(Descriptor::Disposition, list);
 }
 
-fn encoded<F: Form>(header: &Header) -> Scratch
-    ensures { Encodes F.Form.form 155 (header_value F.Form.form.terse header.now) result }
+fn encode<F: Form>(header: &Header, list: &mut Scratch)
+    requires { list.old.items ≡ [] }
+    ensures { Encodes F.Form.form 155 (header_value F.Form.form.terse header.now) list.new }
 {
     match header {
-        Header::Transfer(h) => transfer::<F>(h),
-        Header::Disposition(h) => disposition::<F>(h),
+        Header::Transfer(h) => transfer::<F>(h, list),
+        Header::Disposition(h) => disposition::<F>(h, list),
     }
 }
 
@@ -67,7 +70,9 @@ impl<F: Form> Encoder for F {
     ghost widest = { λ _ h. Longer.widest F.form F.lawful.sizes h };
 
     fn size(&self, header: &Header) -> usize {
-        encoded::<F>(header).len()
+        let mut list = Scratch::new();
+        encode::<F>(header, &mut list);
+        list.len()
     }
 
     fn write(&self, header: &Header, out: &mut [u8]) -> Result<usize, MemoryError>
@@ -76,6 +81,8 @@ impl<F: Form> Encoder for F {
         ensures meaning { MeansIn F.form.terse (header_bytes F.form header.now) header.now }
         ensures ranged { Ranged (header_value F.form.terse header.now) }
     {
-        copy_to(encoded::<F>(header).as_slice(), out)
+        let mut list = Scratch::new();
+        encode::<F>(header, &mut list);
+        copy_to(list.as_slice(), out)
     }
 }

@@ -46,10 +46,11 @@ turn v (Detach closed error) = unless (detach_refusal v closed) (stay v) (detach
 turn v (Look n) = stay v
 turn v (Collect n) = collected v n
 
--- the link after a call
+-- what a call makes of the link; a refused one leaves it (attach by 3 and 4: with their traces)
 abbrev pub step : View → Call → View
 step v c = landed v (turn v c)
 
+-- whether it is refused; look and collect where no seat has the number
 abbrev pub refused : View → Call → Bool
 refused v (Open handle incomplete) = is_some (open_refusal v incomplete)
 refused v (Attach a pool) = is_some (attach_refusal v a pool) || is_some (late_refusal v a)

@@ -3,7 +3,7 @@ use Rattle.std.specs.Prelude.{Bool, true, false, Some, None, Option}
 use Rattle.link.specs.declared.state.LinkState.{LinkState}
 use Rattle.link.specs.declared.state.LinkState.TheVariants.{Unattached, AttachSent, IncompleteAttachSent, AttachReceived, IncompleteAttachReceived, Attached, IncompleteAttachExchanged, Detached, Closed}
 
--- our attach, with a map that is complete or not; a map of the peer's that is not stays so
+-- our attach; the flag says that our map is sent in part. Where the peer's came in part, the link stays incomplete
 abbrev pub after_open : LinkState → (incomplete : Bool) → Option LinkState
 after_open Unattached false = Some AttachSent
 after_open Unattached true = Some IncompleteAttachSent

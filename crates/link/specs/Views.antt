@@ -29,6 +29,7 @@ pub record Rooms : Type 0 where
   pub resume : ℕ
   pub resend : ℕ
 
+-- a link as its callers see it
 pub record View : Type 0 where
   pub state : LinkState
   pub output : Option ℕ

@@ -36,7 +36,7 @@ impl LinkMemory {
     ) -> Result<LinkMemory, AllocError>
         ensures { IfOk result (λ m. (rooms_in m ≡ rooms_of table resume resend) × (seats_in m ≡ seats)) }
     {
-        // Under the tag of the first delivery, so that a search past what the table holds would find it.
+        // Under the tag of the first delivery: a search past what the table holds would find it, and a run would show that.
         let blank = Slot {
             tag: DeliveryTag::from_count(0),
             entry: UnsettledMessage::default(),

@@ -48,15 +48,6 @@ put_at ps bs w k head used x p kl hk uk room z fits e =
 pub put_frames : (ps : List Place) (bs bs' : List ℕ) (w k head used s : ℕ) (x : Place) (p : List ℕ) → k ≡ length ps → head < k → used < k → k * w ≤ length bs → Sized ps k w head used → length p ≤ w → x.size ≡ length p → s ≡ slot k head used → bs' ≡ paste bs (s * w) p (length p) → frames_in (set ps s x) bs' w k head (used + 1) ≡ frames_in ps bs w k head used ++ (frame x.kind x.handle x.header p ∷ [])
 put_frames ps bs bs' w k head used s x p kl hk uk room z fits e se be = rw (be, se) (put_at ps bs w k head used x p kl hk uk room z fits e)
 
--- and keeps all sizes within bounds
-pub put_sized : (ps : List Place) (k w head used s : ℕ) (x : Place) → k ≡ length ps → head < k → used < k → Sized ps k w head used → x.size ≤ w → s ≡ slot k head used → Sized (set ps s x) k w head (used + 1)
-put_sized ps k w head used s x kl hk uk z fits se i l =
-    let tk = mod-lt (head + used) {m = k} (omega arith) in
-    ⊎_elim
-    (λ (a : i < used). let ne = slots_apart k head i used hk a uk in rw (se, get_or-set_other ps (slot k head used) (slot k head i) x blank ne) (z i a))
-    (λ (a : used ≤ i). let e : i ≡ used = omega arith in rw (se, e, get_or-set_same ps (slot k head used) x blank (omega (arith, tk))) fits)
-    (cases_lt i used)
-
 -- a take keeps all sizes within bounds
 pub rest_sized : (ps : List Place) (k w head used : ℕ) → Sized ps k w head used → Sized ps k w (slot k head 1) (used - 1)
 rest_sized ps k w head used z i l = rw (slot_next k head i) at (z (i + 1) (omega arith))
@@ -117,7 +108,3 @@ pub short : (m : Model) (f : Frame) (behind : List Frame) (out : List ℕ) → m
 short m f behind out e h =
     let t = lt-ltb (length out) (length f.payload) h in
     record { answer = rw (e, t); after = rw (e, t); read = rw (e, t) }
-
--- where the oldest frame was taken, the place that comes back makes it again of what the reader's memory holds
-pub frame_back : (f : Frame) (behind : List ℕ) → frame_of (place_of f) (f.payload ++ behind) ≡ f
-frame_back f behind = let p = take_at f.payload behind (length f.payload) refl in rw p

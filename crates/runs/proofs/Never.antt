@@ -1,4 +1,4 @@
--- Deliveries that come back never stand in the way of one another.
+-- Deliveries never stand in the way of one another.
 use Rattle.std.proofs.Common.{◌≡◌, ◌+◌, ◌≤◌, Bool, true, false, cond, List, [], ◌∷◌, ◌++◌, length, Some, None, Option, refl, ap, arith, length-append}
 use Rattle.std.proofs.lemmas.Bool.Decides.{nat_tests}
 use Rattle.std.specs.List.{AllByRecursion}
@@ -21,7 +21,8 @@ use Rattle.link.specs.Resuming.{listed}
 use Rattle.link.specs.Rows.{row, first}
 use Rattle.link.specs.States.{after_detach}
 use Rattle.link.specs.Attaching.{stuck}
-use Rattle.link.specs.Sending.{Carrier, goes_settled, next_tag, table_full, tag_there, none_left, ready, join_rows}
+use Rattle.link.specs.declared.delivery.Sendable.{Sendable}
+use Rattle.link.specs.Sending.{Carrier, entry_rows, own_rows, sink_row, share_for, payload, send_refusal, goes_settled, next_tag, table_full, tag_there, none_left, ready, join_rows}
 use Rattle.link.specs.Views.{View, Entry}
 use Rattle.link.specs.Working.{working, resend_full, joining_rows, task_rows, item_rows, resume_task, restate_task, abort_task, settling_task, work_refusal}
 use Rattle.runs.specs.Safe.{NeverInTheWay}
@@ -129,6 +130,39 @@ resend_clear v c h =
     (row (not (ready v)) (send.LinkState IllegalState) ∷ row (not (none_left v.held.resume)) send.ListsNotEmpty ∷ again_rows v c v.held.resend)
     (another (send.LinkState IllegalState) _ (λ e. cc, λ e. cc), (another send.ListsNotEmpty _ (λ e. cc, λ e. cc), again_clear v c v.held.resend refl h))
 
+-- ---- a send
+
+-- not 13
+abbrev New : Option SendError → Type 0
+New o = Neither send.TagInTable send.TagInTable o
+
+of_sink_new : (o : Option SinkError) → New (option_map of_sink o)
+of_sink_new o = ((of_sink_clear o).1, (of_sink_clear o).1)
+
+entry_new : (v : View) (b : Bool) (os : List (Option SendError)) → Sound v → AllByRecursion New os → AllByRecursion New (cond b [] (entry_rows v) ++ os)
+entry_new v true os h k = k
+entry_new v false os h k = (another send.TableFull _ (λ e. cc, λ e. cc), (unmet send.TagInTable _ (next_new v h), (another send.NoSeat _ (λ e. cc, λ e. cc), k)))
+
+send_new : (v : View) (c : Carrier) (m : Sendable) → Sound v → New (send_refusal v c m)
+send_new v c m h =
+    first_neither
+    (own_rows v c m ++ sink_row c.sink (share_for v c m) (payload c m) ∷ []) (
+      another (send.LinkState IllegalState) _ (λ e. cc, λ e. cc),
+      (
+        another send.ListsNotEmpty _ (λ e. cc, λ e. cc),
+        (
+          another send.OutsidePool _ (λ e. cc, λ e. cc),
+          (
+            another send.MessageSizeExceeded _ (λ e. cc, λ e. cc),
+            (
+              another send.NoCredit _ (λ e. cc, λ e. cc),
+              (another send.FrameTooSmall _ (λ e. cc, λ e. cc), entry_new v (goes_settled v m) _ h (of_sink_new _, tt)),
+            ),
+          ),
+        ),
+      ),
+    )
+
 -- ---- a detach
 
 fits_back : (v : View) → Sound v → overfull v ≡ false
@@ -150,4 +184,4 @@ detach_clear v closed h =
     (another detach.IllegalState _ (λ e. cc, λ e. cc), detach_rows_clear v closed h)
 
 pub never_in_the_way : (v : View) → Sound v → NeverInTheWay v
-never_in_the_way v h = record { work = λ c. work_clear v c h; resend = λ c. resend_clear v c h; detach = λ closed. detach_clear v closed h }
+never_in_the_way v h = record { send = λ c m. (send_new v c m h).0; work = λ c. work_clear v c h; resend = λ c. resend_clear v c h; detach = λ closed. detach_clear v closed h }

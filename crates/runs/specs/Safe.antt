@@ -1,23 +1,25 @@
 -- What holds of every run of a link.
 use Rattle.std.specs.Prelude.{◌≡◌, ℕ, Bool, List, Some, Ok, ◌≢◌}
 use Rattle.amqp.specs.declared.error.ApplyRemoteDetachError.TheVariants as detach
-use Rattle.amqp.specs.declared.error.SendError.TheVariants as send
+use Rattle.amqp.specs.declared.error.SendError.TheVariants as fault
 use Rattle.link.specs.declared.delivery.Outcome.{Outcome}
 use Rattle.link.specs.Calls.{Call, put_by}
 use Rattle.link.specs.Detaching.{detach_refusal}
 use Rattle.link.specs.Disposing.{looked}
 use Rattle.link.specs.Resending.{resend_refusal}
-use Rattle.link.specs.Sending.{Carrier}
+use Rattle.link.specs.declared.delivery.Sendable.{Sendable}
+use Rattle.link.specs.Sending.{Carrier, send_refusal}
 use Rattle.link.specs.Views.{View}
 use Rattle.link.specs.Working.{work_refusal}
 use Rattle.runs.specs.Frames.{PutsRight}
 use Rattle.runs.specs.Lives.{over, life, AsLived, born, progress}
 use Rattle.runs.specs.Runs.{Run, made, Making, ◌▹◌, after, ◌then◌, Leads, given, collected}
 
--- deliveries that come back never stand in the way of one another: neither 11 nor 13 stops work, a resend or a detach
+-- deliveries never stand in the way of one another: 13 stops no send, and neither 11 nor 13 stops work, a resend or a detach
 pub record NeverInTheWay (v : View) : Type 0 where
-  pub work : (c : Carrier) → (work_refusal v c ≢ Some send.TableFull) × (work_refusal v c ≢ Some send.TagInTable)
-  pub resend : (c : Carrier) → (resend_refusal v c ≢ Some send.TableFull) × (resend_refusal v c ≢ Some send.TagInTable)
+  pub send : (c : Carrier) (m : Sendable) → send_refusal v c m ≢ Some fault.TagInTable
+  pub work : (c : Carrier) → (work_refusal v c ≢ Some fault.TableFull) × (work_refusal v c ≢ Some fault.TagInTable)
+  pub resend : (c : Carrier) → (resend_refusal v c ≢ Some fault.TableFull) × (resend_refusal v c ≢ Some fault.TagInTable)
   pub detach : (closed : Bool) → (detach_refusal v closed ≢ Some detach.TableFull) × (detach_refusal v closed ≢ Some detach.TagInTable)
 
 pub record Safe (r : Run) (v : View) : Type 0 where

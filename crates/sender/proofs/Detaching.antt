@@ -2,7 +2,7 @@
 use Rattle.std.proofs.Common.{◌≡◌, ℕ, suc, ◌+◌, ◌<◌, ◌≤◌, Bool, true, false, ◌||◌, List, [], ◌∷◌, ◌++◌, length, get_or, take, drop, is_some, Some, Ok, Err, Result, sym, refl, ap, ◌∙◌, arith, true≢false, length-append}
 use Rattle.std.proofs.Math.Seq.{drop-cons}
 use Rattle.std.proofs.lemmas.List.Elements.{filter_map-append}
-use Rattle.std.proofs.lemmas.List.{take_more, take_all, take-take, take_at, take-append-drop, append-nil, append_assoc, map-append}
+use Rattle.std.proofs.lemmas.List.{take_more, take-take, take_at, take-append-drop, append-nil, append_assoc, map-append}
 use Rattle.amqp.specs.declared.error.ApplyRemoteDetachError.{ApplyRemoteDetachError}
 use Rattle.amqp.specs.declared.error.ApplyRemoteDetachError.TheVariants as fault
 use Rattle.unsettled.specs.Tables.{look}
@@ -98,20 +98,6 @@ module _ {X : Type 0} (g : List X → List Entry) (hom : (xs ys : List X) → g 
             sym (take-take (length ts) (length ys) zs (omega (arith, ap length h.there, length-append ts (g (take i xs)))))
             ∙ ap (take (length ts)) (j.front ∙ h.there) ∙ take_at ts (g (take i xs)) (length ts) refl;
       }
-
--- all have joined it
-pub join_ends : {X : Type 0} (g : List X → List Entry) (xs : List X) (n : ℕ) → length xs ≤ n → (ts ys : List Entry) → Joining ts (g (take n xs)) ys → Joined ts (g xs) (Ok tt) ys
-join_ends g xs n l ts ys h =
-    let e = ap g (take_all n xs l) in
-    let t = h.there ∙ ap (λ es. ts ++ es) e in
-    record {
-      answer = sym (ap (λ b. gated (row b fault.TagInTable) tt) (ap (λ es. clash es ts) (sym e) ∙ h.apart));
-      joined = λ _. t;
-      front = ap (take (length ts)) t ∙ take_at ts (g xs) (length ts) refl;
-    }
-
-pub none_joined : (ts ys : List Entry) → ys ≡ ts → Joining ts [] ys
-none_joined ts ys e = record { apart = refl; there = e ∙ sym (append-nil ts) }
 
 -- one list after the other
 pub joined_first : (ts xs ys zs : List Entry) (e : ApplyRemoteDetachError) → Joined ts xs (Err e) zs → Joined ts (xs ++ ys) (Err e) zs

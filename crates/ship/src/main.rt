@@ -70,7 +70,7 @@ fn ship_all<S: Outbox, W: Write + Drop>(
                 println!(rt; "{shelf} {path}: {len} bytes, {refused}")?;
                 shipped = Err(Failed);
             }
-            // Beside an arm that goes on, a `?` finds no place.
+            // By hand: the arm before goes on, where a `?` would return.
             Err(e) => return Err(fail(rt, e)),
         }
     }
@@ -83,7 +83,10 @@ fn run<S: Outbox, W: Write + Drop>(
     spool: &mut SpoolFile<W>,
 ) -> Result<(), Failed> {
     let heap = rt.alloc();
-    let mut memory = LinkMemory::with_entries(heap, ENTRIES).map_err(|_| fail(rt, ShipError::NoMemory))?;
+    let mut memory = LinkMemory::with_entries(heap, ENTRIES).map_err(|_| fail(
+        rt,
+        ShipError::NoMemory,
+    ))?;
     let opened: Result<Dock<'_, S>, ShipError> = Dock::open(
         heap,
         &mut memory,

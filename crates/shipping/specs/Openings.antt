@@ -1,5 +1,5 @@
 -- A dock as it is opened.
-use Rattle.std.specs.Prelude.{◌≡◌, ℕ, min, max, true, false, List, replicate, Some, Ok, Err, vec_len, Result}
+use Rattle.std.specs.Prelude.{◌≡◌, ℕ, min, max, true, false, List, replicate, Some, Ok, Err, Result}
 use Rattle.amqp.specs.declared.mode.SenderSettleMode.TheVariants.{Unsettled}
 use Rattle.amqp.specs.declared.mode.ReceiverSettleMode.TheVariants.{First}
 use Rattle.sink.specs.Frames as sinks

@@ -44,6 +44,17 @@ keyed_nowhere key p keys n xs m d h le reach same e =
     false_from_ne_true _
     (λ t. both_ways _ (none_passes (is_key m) keys k None e (omega arith)) (has_key m _ (h.each k d (omega arith) (omega arith) ∙ same _ (sym (ap p r) ∙ t)))))
 
+-- nor where the first place of the key is behind them
+pub keyed_behind : {X : Type 0} (key : X → Option ℕ) (p : X → Bool) (keys : List (Option ℕ)) (n : ℕ) (xs : List X) (m i : ℕ) (d : X) → Keyed key keys n xs → n ≤ length xs → n ≤ i → ((x : X) → p x ≡ true → key x ≡ Some m) → Some i ≡ position (is_key m) keys → None ≡ position p (take n xs)
+unfolding Keyed
+keyed_behind key p keys n xs m i d h le past same e =
+    let f = position-Some (is_key m) keys i None (sym e) in
+    let l = length-take-le n xs le in
+    no_place p (take n xs) d
+    (λ k a.
+    let r = get_or-take n xs k d (omega arith) in
+    false_from_ne_true _ (λ t. both_ways _ (f.2 k (omega arith)) (has_key m _ (h.each k d (omega arith) (omega (arith, f.0)) ∙ same _ (sym (ap p r) ∙ t)))))
+
 -- the next item's place gets its key
 pub keyed_next : {X : Type 0} (key : X → Option ℕ) (keys : List (Option ℕ)) (n : ℕ) (xs : List X) (d : X) (o : Option ℕ) → n < length xs → o ≡ key (get_or xs n d) → Keyed key keys n xs → Keyed key (set keys n o) (n + 1) xs
 unfolding Keyed
@@ -114,6 +125,10 @@ slot_first t keys n xs i d h le e lt here = keyed_first key_of (has_tag t) keys 
 pub slot_nowhere : {M : Type 0} (t : DeliveryTag) (keys : List (Option ℕ)) (n : ℕ) (xs : List (Slot M)) → Keyed key_of keys n xs → n ≤ length xs → n ≤ length keys → None ≡ position (is_key (mixed (tag_bytes t))) keys → None ≡ place t (take n xs)
 slot_nowhere t keys n [] h le reach e = sym (ap (place t) (take-nil n))
 slot_nowhere t keys n (x ∷ xs) h le reach e = keyed_nowhere key_of (has_tag t) keys n (x ∷ xs) (mixed (tag_bytes t)) x h le reach (tag_keyed t) e
+
+pub slot_behind : {M : Type 0} (t : DeliveryTag) (keys : List (Option ℕ)) (n : ℕ) (xs : List (Slot M)) (i : ℕ) → Keyed key_of keys n xs → n ≤ length xs → n ≤ i → Some i ≡ position (is_key (mixed (tag_bytes t))) keys → None ≡ place t (take n xs)
+slot_behind t keys n [] i h le past e = sym (ap (place t) (take-nil n))
+slot_behind t keys n (x ∷ xs) i h le past e = keyed_behind key_of (has_tag t) keys n (x ∷ xs) (mixed (tag_bytes t)) i x h le past (tag_keyed t) e
 
 pub slot_over : {M : Type 0} (t : DeliveryTag) (m : M) (keys : List (Option ℕ)) (n : ℕ) (xs : List (Slot M)) (i : ℕ) → Keyed key_of keys n xs → n ≤ length xs → Some i ≡ place t (take n xs) → Keyed key_of keys n (set xs i (record { tag = t; entry = m }))
 slot_over t m keys n xs i h le e =

@@ -1,15 +1,21 @@
 -- What an illegal tag in a peer's map is, by indices.
-use Rattle.std.proofs.Common.{◌≡◌, ℕ, ◌<◌, ◌≤◌, true, false, ltb, List, length, get_or, take, Decides, sym, refl, ap, ◌∙◌, ⊎_elim, arith}
-use Rattle.std.specs.List.{HoldsAt, range_with_len}
+use Rattle.std.proofs.Common.{◌≡◌, ℕ, suc, ◌<◌, ◌≤◌, Bool, true, false, not, cond, ltb, List, [], ◌∷◌, length, Option, Some, get_or, take, Decides, sym, refl, ap, ◌∙◌, ⊎_elim, arith}
+use Rattle.std.specs.List.{HoldsAt, range_with_len, find}
+use Rattle.std.specs.Option.{option_map}
+use Rattle.std.specs.Prelude.{nat_le}
+use Rattle.amqp.specs.declared.state.DeliveryState.{DeliveryState}
+use Rattle.amqp.specs.declared.tag.DeliveryTag.{DeliveryTag}
 use Rattle.std.proofs.lemmas.List.Folds.{Any-from_list_any, list_any_at}
 use Rattle.std.proofs.lemmas.List.FromFn.{length-range_with_len, get_or-range_with_len}
 use Rattle.std.specs.Str.{bytes_eq}
 use Rattle.std.proofs.lemmas.Slice.Eq.{bytes_eq-Decides}
 use Rattle.std.proofs.lemmas.List.{length-take-le, get_or-take, get_or_default}
-use Rattle.std.proofs.lemmas.Bool.{both_ways, false_from_ne_true, cases_Bool, ltb-true, ltb-false, or_cases, or_parts}
-use Rattle.std.proofs.lemmas.Bool.Decides.{Decides-by_or, not_from_Decides}
+use Rattle.std.proofs.lemmas.Bool.{both_ways, not-true, not_from_false, false_from_ne_true, cases_Bool, ltb-true, ltb-false, or_cases, or_parts}
+use Rattle.std.proofs.lemmas.Bool.Decides.{Decides-by_or, not_from_Decides, nat_tests}
 use Rattle.unsettled.specs.declared.peer.PeerDelivery.{PeerDelivery}
-use Rattle.unsettled.specs.Peers.{bytes_of, among, blank, tag_at, illegal_at, illegal_tags, LegalTags}
+use Rattle.unsettled.specs.declared.slot.Slot.{Slot}
+use Rattle.unsettled.specs.Peers.{bytes_of, among, blank, tag_at, illegal_at, illegal_tags, slot_of, peers_of, pair_of, LegalTags}
+use Rattle.unsettled.specs.Tables.{has_tag, entry_of, look}
 
 illegal_decides : (ps : List PeerDelivery) → Decides (illegal_tags ps) ((k : ℕ) × (k < length ps) × (illegal_at ps k ≡ true))
 illegal_decides ps = (
@@ -62,3 +68,27 @@ not_illegal ps h = sym (false_from_ne_true _ (none_illegal ps h))
 
 pub is_illegal : (ps : List PeerDelivery) → (LegalTags ps → ⊥) → true ≡ illegal_tags ps
 is_illegal ps h = ⊎_elim (λ t. sym t) (λ f. absurd (h (legal_from ps f))) (cases_Bool (illegal_tags ps))
+
+-- no tag is illegal just where all are short and no two the same
+pub legal_decides : (ps : List PeerDelivery) (r : Bool) → r ≡ illegal_tags ps → Decides (not r) (LegalTags ps)
+legal_decides ps r e = (
+  λ h. legal_from ps (sym e ∙ not-true r h),
+  λ h. ⊎_elim (λ t. absurd (none_illegal ps h (sym e ∙ t))) (λ f. not_from_false r f) (cases_Bool r),
+)
+
+-- ---- the first pair of a tag
+
+same_pick : (b : Bool) (p : PeerDelivery) (x : Option PeerDelivery) (y : Option (Slot (Option DeliveryState)))
+    → option_map (λ (q : PeerDelivery). q.state) x ≡ entry_of y
+    → option_map (λ (q : PeerDelivery). q.state) (cond b (Some p) x) ≡ entry_of (cond b (Some (slot_of p)) y)
+same_pick true p x y h = refl
+same_pick false p x y h = h
+
+-- where all tags are short, it tells what the pairs as a table do
+pub first_told : (t : DeliveryTag) (ps : List PeerDelivery) → ((i : ℕ) → i < length ps → length (tag_at ps i) ≤ 32)
+    → option_map (λ (q : PeerDelivery). q.state) (find (pair_of t) ps) ≡ look t (peers_of ps)
+first_told t [] h = refl
+first_told t (p ∷ ps) h =
+    let b : length (bytes_of p) ≤ 32 = h 0 (omega arith) in
+    let s : nat_le (length (bytes_of p)) 32 ≡ true = grind (arith, nat_tests) in
+    rw s (same_pick (has_tag t (slot_of p)) p (find (pair_of t) ps) (find (has_tag t) (peers_of ps)) (first_told t ps (λ i l. h (suc i) (omega (arith, l)))))

@@ -3,11 +3,12 @@ use Rattle.std.specs.Prelude.{ℕ, ◌<◌, ◌≤◌, Bool, cond, ◌&&◌, ◌
 use Rattle.std.specs.List.{list_any, range_with_len}
 use Rattle.std.specs.Str.{bytes_eq}
 use Rattle.amqp.specs.declared.state.DeliveryState.{DeliveryState}
+use Rattle.amqp.specs.declared.tag.DeliveryTag.{DeliveryTag}
 use Rattle.amqp.specs.Tags.{tag_from}
 use Rattle.unsettled.specs.declared.slot.Slot.{Slot}
 use Rattle.unsettled.specs.declared.peer.PeerDelivery.{PeerDelivery}
 use Rattle.unsettled.specs.Keys.{mixed}
-use Rattle.unsettled.specs.Tables.{can_put, put_in}
+use Rattle.unsettled.specs.Tables.{can_put, put_in, has_tag}
 
 -- a pair's tag
 abbrev pub bytes_of : PeerDelivery → List ℕ
@@ -47,9 +48,17 @@ pub record LegalUpTo (n : ℕ) (ps : List PeerDelivery) : Type 0 where
 abbrev pub key_of_pair : PeerDelivery → Option ℕ
 key_of_pair p = Some (mixed (bytes_of p))
 
+-- a pair as a slot of a table
+abbrev pub slot_of : PeerDelivery → Slot (Option DeliveryState)
+slot_of p = record { tag = tag_from (bytes_of p); entry = p.state }
+
 -- the pairs as the slots of a table
 abbrev pub peers_of : List PeerDelivery → List (Slot (Option DeliveryState))
-peers_of ps = map (λ p. record { tag = tag_from (bytes_of p); entry = p.state }) ps
+peers_of ps = map slot_of ps
+
+-- a pair has this tag, which has at most 32 bytes
+abbrev pub pair_of : DeliveryTag → PeerDelivery → Bool
+pair_of t p = nat_le (length (bytes_of p)) 32 && has_tag t (slot_of p)
 
 -- a pair is put under its tag where that has at most 32 bytes and there is room among n slots
 abbrev pub with_pair : ℕ → List (Slot (Option DeliveryState)) → PeerDelivery → List (Slot (Option DeliveryState))

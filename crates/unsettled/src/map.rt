@@ -1,6 +1,5 @@
 // A table of unsettled deliveries by their tags, in lent memory (Part 2, 2.6.13).
 ghost use Rattle.std.specs.Prelude.{◌≡◌, ◌<◌, ◌≤◌, [], length, take, is_some, IfSome, if◌then◌else◌, Ok, Err, slice_set};
-ghost use Rattle.std.specs.List.{slice_get};
 ghost use Rattle.unsettled.specs.Indexes.{keys_of};
 ghost use Rattle.unsettled.specs.Keyed.{Keyed, Keyed-prop, key_of};
 
@@ -71,12 +70,6 @@ impl<'a, M: Copy> UnsettledMap<'a, M> {
         self.count() >= self.capacity()
     }
 
-    pub fn at(&self, i: usize) -> Option<Slot<M>>
-        ensures { result ≡ slice_get (held self.now) i }
-    {
-        self.front().get(i).copied()
-    }
-
     #[tactic(auto, unfolding(crate::specs::Tables::same_tag))]
     fn search(&self, tag: &DeliveryTag) -> Option<usize>
         ensures value { result ≡ place tag.now (held self.now) }
@@ -86,6 +79,7 @@ impl<'a, M: Copy> UnsettledMap<'a, M> {
     }
 
     // Where a tag stands first. What the index cannot tell is searched for: a tag that shares its key, or one past its places.
+    // A place past the last slot was left by a tag that is there no more.
     pub fn find(&self, tag: &DeliveryTag) -> Option<usize>
         ensures value { result ≡ place tag.now (held self.now) }
         ensures within { IfSome result (λ i. i < length (held self.now)) }
@@ -93,6 +87,7 @@ impl<'a, M: Copy> UnsettledMap<'a, M> {
         let slots = self.front();
         match self.index.find(key_of_bytes(tag.as_slice())) {
             Some(i) if i < slots.len() && slots[i].tag == *tag => Some(i),
+            Some(i) if i >= slots.len() => None,
             None if slots.len() <= PLACES => None,
             _ => self.search(tag),
         }

@@ -1,9 +1,11 @@
 // The peer's map of unsettled deliveries, as its attach brings it (Part 2, 2.7.3).
 ghost use Rattle.std.specs.Prelude.{◌≡◌, ◌<◌, ◌≤◌, min, [], true, false, not, length, take, fold, Decides};
-ghost use Rattle.unsettled.specs.Peers.{among, tag_at, illegal_tags, with_pair, peers_of, key_of_pair, LegalTags, LegalUpTo};
+ghost use Rattle.std.specs.List.{find};
+ghost use Rattle.std.specs.Option.{option_map};
+ghost use Rattle.unsettled.specs.Peers.{among, tag_at, illegal_at, illegal_tags, pair_of, with_pair, peers_of, key_of_pair, LegalTags, LegalUpTo};
 ghost use Rattle.unsettled.specs.Indexes.{keys_of};
 ghost use Rattle.unsettled.specs.Keyed.{Keyed};
-ghost use Rattle.unsettled.specs.Tables.{held, room};
+ghost use Rattle.unsettled.specs.Tables.{held, room, look};
 
 use crate::index::{Index, PLACES, key_of_bytes};
 use crate::map::UnsettledMap;
@@ -13,6 +15,9 @@ use amqp::tag::DeliveryTag;
 
 // The most bytes of a tag (Part 2, 2.8.7).
 const MAX_TAG: usize = 32;
+
+// So few pairs are searched one by one: that is sooner done than an index is laid out.
+pub const FEW_PAIRS: usize = 16;
 
 #[derive(Clone, Copy)]
 pub struct PeerDelivery<'p> {
@@ -57,11 +62,31 @@ fn has_early_fault(pairs: &[PeerDelivery<'_>]) -> bool
     false
 }
 
+// The tag at i is too long, or stands before i too.
+fn is_illegal(pairs: &[PeerDelivery<'_>], i: usize) -> bool
+    requires { i < length pairs.now }
+    ensures { result ≡ illegal_at pairs.now i }
+{
+    let tag = pairs[i].tag;
+    tag.len() > MAX_TAG || is_among(tag, &pairs[..i])
+}
+
+// By place, since each tag is compared with those before it.
+fn is_any_illegal(pairs: &[PeerDelivery<'_>]) -> bool
+    ensures value { result ≡ illegal_tags pairs.now }
+    ensures legal { Decides (not result) (LegalTags pairs.now) }
+{
+    (0..pairs.len()).any(|i| is_illegal(pairs, i))
+}
+
 // Some tag is too long, or stands twice.
 pub fn has_illegal_tag(pairs: &[PeerDelivery<'_>]) -> bool
     ensures value { result ≡ illegal_tags pairs.now }
     ensures legal { Decides (not result) (LegalTags pairs.now) }
 {
+    if pairs.len() <= FEW_PAIRS {
+        return is_any_illegal(pairs);
+    }
     let mut from = 0;
     while from < pairs.len() {
         if has_early_fault(&pairs[from..]) {
@@ -70,6 +95,29 @@ pub fn has_illegal_tag(pairs: &[PeerDelivery<'_>]) -> bool
         from += PLACES;
     }
     false
+}
+
+// A pair has this tag.
+#[tactic(auto, unfolding(crate::specs::Tables::same_tag))]
+fn is_of(pair: &PeerDelivery<'_>, tag: &DeliveryTag) -> bool
+    ensures { result ≡ pair_of tag.now pair.now }
+{
+    DeliveryTag::from_slice(pair.tag).is_some_and(|own| own == *tag)
+}
+
+fn first_state(pairs: &[PeerDelivery<'_>], tag: &DeliveryTag) -> Option<Option<DeliveryState>>
+    ensures { result ≡ option_map (λ p. p.state) (find (pair_of tag.now) pairs.now) }
+{
+    let pair = pairs.iter().find(|pair| is_of(pair, tag))?;
+    Some(pair.state)
+}
+
+// What the pairs say of a tag: the first that has it does.
+pub fn peer_state(pairs: &[PeerDelivery<'_>], tag: &DeliveryTag) -> Option<Option<DeliveryState>>
+    ensures value { result ≡ option_map (λ p. p.state) (find (pair_of tag.now) pairs.now) }
+    ensures legal { LegalTags pairs.now → result ≡ look tag.now (peers_of pairs.now) }
+{
+    first_state(pairs, tag)
 }
 
 // Puts a pair under its tag, if the tag is short enough and the memory reaches.

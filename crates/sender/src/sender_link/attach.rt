@@ -7,7 +7,7 @@ ghost use Rattle.link.specs.Resuming.{item_for, end_for, end_of};
 ghost use Rattle.link.specs.Rows.{gated};
 ghost use Rattle.link.specs.Seats.{seated};
 ghost use Rattle.link.specs.Turns.{landed, holding, tell_all};
-ghost use Rattle.unsettled.specs.Peers.{LegalTags};
+ghost use Rattle.unsettled.specs.Peers.{LegalTags, peers_of};
 ghost use Rattle.unsettled.specs.Tables.{held};
 ghost use Rattle.unsettled.specs.Worklists.{items, space};
 ghost use Rattle.runs.specs.Safe.{SafeAfter};
@@ -24,15 +24,12 @@ use link::seat::Seats;
 use link::state::LinkState;
 use unsettled::map::UnsettledMap;
 use unsettled::message::{UnsettledMessage, any_outside};
-use unsettled::peer::{has_illegal_tag, peer_map};
+use unsettled::peer::{FEW_PAIRS, PeerDelivery, has_illegal_tag, peer_map, peer_state};
 use unsettled::slot::Slot;
 use unsettled::worklist::Worklist;
 
 // The most pairs of the peer's map of unsettled deliveries.
 const MOST_PAIRS: usize = 1024;
-
-// So many take a small table: laying out the largest takes longer than all else that an attach with few pairs does.
-const FEW_PAIRS: usize = 16;
 
 fn list(resume: &mut Worklist<'_, ResumingDelivery>, item: ResumingDelivery)
     requires { length (items resume.old) + 1 ≤ space resume.old }
@@ -90,6 +87,44 @@ fn resume_slots(
     }
 }
 
+// So do they by what the peer's pairs say, through a table of the pairs.
+fn resume_by_table(
+    resume: &mut Worklist<'_, ResumingDelivery>,
+    seats: &mut Seats<'_>,
+    slots: &[Slot<UnsettledMessage>],
+    pairs: &[PeerDelivery<'_>],
+)
+    requires legal { LegalTags pairs.now }
+    requires few { length pairs.now ≤ 1024 }
+    requires room { length (items resume.old) + length slots.now ≤ space resume.old }
+    ensures listed { items resume.new ≡ items resume.old ++ flat_map (item_by (peers_of pairs.now)) slots.now }
+    ensures space { space resume.new ≡ space resume.old }
+    ensures told { seated seats.new ≡ tell_all (flat_map (end_by (peers_of pairs.now)) slots.now) (seated seats.old) }
+{
+    let mut memory = [Slot::default(); MOST_PAIRS];
+    let remote = peer_map(&mut memory, pairs);
+    resume_slots(resume, seats, slots, &remote);
+}
+
+// The same, where the pairs are so few that a search is sooner done than a table is laid out.
+fn resume_by_search(
+    resume: &mut Worklist<'_, ResumingDelivery>,
+    seats: &mut Seats<'_>,
+    slots: &[Slot<UnsettledMessage>],
+    pairs: &[PeerDelivery<'_>],
+)
+    requires legal { LegalTags pairs.now }
+    requires room { length (items resume.old) + length slots.now ≤ space resume.old }
+    ensures listed { items resume.new ≡ items resume.old ++ flat_map (item_by (peers_of pairs.now)) slots.now }
+    ensures space { space resume.new ≡ space resume.old }
+    ensures told { seated seats.new ≡ tell_all (flat_map (end_by (peers_of pairs.now)) slots.now) (seated seats.old) }
+{
+    for slot in slots {
+        let decided = resume_delivery(slot.entry.state, peer_state(pairs, &slot.tag));
+        resume_as(resume, seats, slot, decided);
+    }
+}
+
 impl<'a> SenderLink<'a> {
     // Only refuses: the state that the link moves to, or what stands against the move.
     fn may_attach(&self, attach: &Attach<'_>, pool: &[u8]) -> Result<LinkState, SenderAttachError>
@@ -142,35 +177,20 @@ impl<'a> SenderLink<'a> {
         }
     }
 
-    // The table is emptied, and each of its deliveries waits for its turn or has ended. The peer's pairs are at most N.
-    fn resume_with<const N: usize>(&mut self, attach: &Attach<'_>)
-        requires legal { LegalTags attach.now.unsettled.now }
-        requires few { length attach.now.unsettled.now ≤ N }
-        requires room { length self.old.held.resume + length self.old.held.table ≤ self.old.rooms.resume }
-        ensures { self.new ≡ landed self.old (holding self.old (resumed self.old attach.now) (flat_map (end_of attach.now) self.old.held.table)) }
-    {
-        let mut slots = [Slot::default(); N];
-        let remote = peer_map(&mut slots, attach.unsettled);
-        resume_slots(
-            &mut self.resume,
-            &mut self.seats,
-            self.unsettled.front(),
-            &remote,
-        );
-        self.unsettled.clear();
-    }
-
+    // The table is emptied, and each of its deliveries waits for its turn or has ended.
     fn resume_all(&mut self, attach: &Attach<'_>)
         requires legal { LegalTags attach.now.unsettled.now }
         requires few { length attach.now.unsettled.now ≤ 1024 }
         requires room { length self.old.held.resume + length self.old.held.table ≤ self.old.rooms.resume }
         ensures { self.new ≡ landed self.old (holding self.old (resumed self.old attach.now) (flat_map (end_of attach.now) self.old.held.table)) }
     {
+        let slots = self.unsettled.front();
         if attach.unsettled.len() <= FEW_PAIRS {
-            self.resume_with::<FEW_PAIRS>(attach);
+            resume_by_search(&mut self.resume, &mut self.seats, slots, attach.unsettled);
         } else {
-            self.resume_with::<MOST_PAIRS>(attach);
+            resume_by_table(&mut self.resume, &mut self.seats, slots, attach.unsettled);
         }
+        self.unsettled.clear();
     }
 
     // The peer's attach has come. Where it has no target, or wants another settlement, the refusal leaves the link moved.

@@ -51,7 +51,7 @@ impl<'a> SenderLink<'a> {
     }
 
     // It took a credit and is off its list; where it went out settled it has ended.
-    fn sent_again(&mut self, entry: &UnsettledMessage, settled: bool)
+    fn take_off(&mut self, entry: &UnsettledMessage, settled: bool)
         ensures { self.new ≡ landed self.old (sent_on settled entry.now self.old) }
     {
         self.flow_state.consume();
@@ -79,7 +79,7 @@ impl<'a> SenderLink<'a> {
         }
         let task = self.again(slot);
         self.carry(sink, encoder, pool, &task)?;
-        self.sent_again(&slot.entry, task.joins.is_none());
+        self.take_off(&slot.entry, task.joins.is_none());
         Ok(Progress::Worked)
     }
 

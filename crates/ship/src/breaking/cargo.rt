@@ -1,8 +1,10 @@
 // The messages of all files, end to end in one pool.
-ghost use Rattle.std.specs.Prelude.{◌≡◌, ◌≢◌, true, None, ◌++◌, OnOk};
+ghost use Rattle.std.specs.Prelude.{◌≡◌, ◌≢◌, true, false, None, [], ◌∷◌, ◌++◌, length, Decides, OnOk, OnErr};
 ghost use Rattle.link.specs.Sending.{message};
+ghost use Rattle.ship.specs.Cargo.{loaded};
 ghost use Rattle.shipping.specs.Sections.{data_section};
 ghost use Rattle.shipping.specs.Texts.{is_accepted};
+ghost use Rattle.unsettled.specs.Messages.{outside};
 
 use crate::breaking::trouble::Trouble;
 use amqp::condition::AmqpError;
@@ -50,7 +52,7 @@ impl Consignment {
 
     // Whether these bytes are its message.
     pub fn is_message(&self, pool: &[u8], bytes: &[u8]) -> bool
-        ensures { result ≡ true → bytes.now ≡ message pool.now self.now.place }
+        ensures { Decides result ((outside self.now.place (length pool.now) ≡ false) × (bytes.now ≡ message pool.now self.now.place)) }
     {
         if self.place.is_outside(pool) {
             return false;
@@ -60,23 +62,28 @@ impl Consignment {
 
     // What its ticket tells once the archive has answered for a delivery. No file is accepted with bytes that are not its own.
     pub fn learn(&mut self, told: Option<Outcome>, part: &Part, pool: &[u8]) -> Result<(), Trouble>
-        ensures own { OnOk result (self.old.outcome ≡ None → is_accepted self.new.outcome ≡ true → part.now.bytes ≡ message pool.now self.new.place) }
+        ensures own { self.old.outcome ≡ None → is_accepted self.new.outcome ≡ true → part.now.bytes ≡ message pool.now self.new.place }
         ensures once { self.old.outcome ≢ None → self.new ≡ self.old }
+        ensures told { OnOk result (self.old.outcome ≡ None → self.new.outcome ≡ told) }
+        ensures kept { OnErr result (self.new ≡ self.old) }
     {
         if self.outcome.is_some() || told.is_none() {
             return Ok(());
         }
-        self.outcome = told;
-        self.frames = part.frames;
-        if self.is_accepted() && !self.is_message(pool, part.bytes.as_slice()) {
+        let accepted = told == Some(Outcome::State(DeliveryState::Accepted));
+        if accepted && !self.is_message(pool, part.bytes.as_slice()) {
             return Err(Trouble::Mixed);
         }
+        self.outcome = told;
+        self.frames = part.frames;
         Ok(())
     }
 }
 
 impl Cargo {
-    pub fn new(heap: Global) -> Cargo {
+    pub fn new(heap: Global) -> Cargo
+        ensures { (result.pool.items ≡ []) × (result.files.items ≡ []) }
+    {
         Cargo {
             pool: Vec::new(heap),
             files: Vec::new(heap),
@@ -85,7 +92,8 @@ impl Cargo {
 
     // The file's message joins the end of the pool.
     pub fn load(&mut self, heap: Global, file: &[u8]) -> Result<(), Trouble>
-        ensures { OnOk result (self.new.pool.items ≡ self.old.pool.items ++ data_section file.now) }
+        ensures pool { OnOk result (self.new.pool.items ≡ self.old.pool.items ++ data_section file.now) }
+        ensures files { OnOk result (self.new.files.items ≡ self.old.files.items ++ loaded self.old.pool.items file.now ∷ []) }
     {
         let message = data_section(heap, file)?;
         let place = Place {

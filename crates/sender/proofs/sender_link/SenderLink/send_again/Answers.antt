@@ -26,5 +26,5 @@ returns g c =
     let l = first_is v.held.resend e c.requires in
     let h = rw c.again-task.ensures at (rw c.in_ok-carry.was at c.carry.ensures) in
     let s = settled_is (goes_settled v (again e)) c.is_none.result v e (rw c.again-task.ensures at c.is_none.ensures) in
-    subst (λ es. AgainDone es v k _ c.sent_again.new.self (g.S.Sink.model c.carry.new.sink)) (sym l)
-    (done v k e (drop 1 v.held.resend) (sym c.is_outside.ensures ∙ c.if-is_outside.false) (search rules) _ _ _ c.is_none.result s l h c.sent_again.ensures)
+    subst (λ es. AgainDone es v k _ c.take_off.new.self (g.S.Sink.model c.carry.new.sink)) (sym l)
+    (done v k e (drop 1 v.held.resend) (sym c.is_outside.ensures ∙ c.if-is_outside.false) (search rules) _ _ _ c.is_none.result s l h c.take_off.ensures)
