@@ -1,1 +1,4 @@
 pub mod Spacing
+pub mod Collecting
+pub mod Blanks
+pub mod Telling

@@ -12,4 +12,8 @@ pub mod Keeping
 pub mod Comebacks
 pub mod Sinks
 pub mod Attaches
+pub mod Troubles
+pub mod Breaks
+pub mod Inputs
+pub mod Playing
 pub mod Performing

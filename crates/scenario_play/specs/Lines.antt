@@ -1,5 +1,5 @@
 -- What the lines answer that show what a player has, and what they leave.
-use Rattle.std.specs.Prelude.{◌≡◌, ℕ, ◌≤◌, Bool, false, List, length, take, replicate, Option, Some, None, Result, Ok, Err, vec_items}
+use Rattle.std.specs.Prelude.{◌≡◌, ℕ, ◌≤◌, ◌<◌, Bool, false, List, length, take, replicate, Option, Some, None, Result, Ok, Err, vec_items}
 use Rattle.amqp.specs.declared.error.MemoryError.{MemoryError}
 use Rattle.link.specs.Views.{View}
 use Rattle.queue.specs.declared.place.Place.{Place}
@@ -9,11 +9,14 @@ use Rattle.unsettled.specs.Shown.{shown_pairs, shown_answer, Tells}
 use Rattle.scenario_text.specs.declared.command.EncoderForm.{EncoderForm}
 use Rattle.scenario_text.specs.declared.command.PoolSource.{PoolSource}
 use Rattle.scenario_text.specs.declared.command.PoolSource.TheVariants.{Digits, Repeat, File}
-use Rattle.scenario_text.specs.Values.{bytes_text}
+use Rattle.scenario_text.specs.declared.fault.Fault.TheVariants.{OutOfMemory}
+use Rattle.scenario_text.specs.Values.{AreBytes, bytes_text}
 use Rattle.scenario_play.specs.declared.answer.Answer.{Answer}
 use Rattle.scenario_play.specs.declared.answer.Answer.TheVariants as answer
 use Rattle.scenario_play.specs.declared.answer.Refusal.TheVariants.{Number}
 use Rattle.scenario_play.specs.declared.answer.Taken.{Taken}
+use Rattle.scenario_play.specs.declared.trouble.Trouble.{Trouble}
+use Rattle.scenario_play.specs.declared.trouble.Trouble.TheVariants as trouble
 use Rattle.scenario_play.specs.Chosens.{bytes_of}
 use Rattle.scenario_play.specs.Outlets.{taken_by, left_by, read_by, Emptied}
 use Rattle.scenario_play.specs.Snapshots.{ShowsLink}
@@ -21,18 +24,46 @@ use Rattle.scenario_play.specs.Scenes.{Scene, with_sink, with_pool}
 
 -- ---- the pool
 
-abbrev pub FilledFrom : PoolSource → List ℕ → Type 0
-FilledFrom (Digits text) pool = text.now ≡ bytes_text pool
-FilledFrom (Repeat count byte) pool = pool ≡ replicate count byte
-FilledFrom (File path) pool = Unit {0}
+-- `holds` says which bytes a file may have
+abbrev pub FilledFrom : (holds : List ℕ → List ℕ → Type 0) → PoolSource → List ℕ → Type 0
+FilledFrom holds (Digits text) pool = text.now ≡ bytes_text pool
+FilledFrom holds (Repeat count byte) pool = pool ≡ replicate count byte
+FilledFrom holds (File path) pool = holds path.now pool
 
-pub record FillsLine (source : PoolSource) (s : Scene) (a : Answer) (t : Scene) : Type 0 where
+pub record FillsLine (holds : List ℕ → List ℕ → Type 0) (source : PoolSource) (s : Scene) (a : Answer) (t : Scene) : Type 0 where
   pub answer : a ≡ answer.Pool (length t.pool)
-  pub pool : FilledFrom source t.pool
+  pub pool : FilledFrom holds source t.pool
   pub bound : length t.pool ≤ 70000000
   pub rest : t ≡ with_pool t.pool s
 
+-- digits that are not those of any bytes
+abbrev pub IsNoBytes : PoolSource → Type 0
+IsNoBytes (Digits text) = (bs : List ℕ) → AreBytes bs → text.now ≡ bytes_text bs → ⊥
+IsNoBytes x = ⊥
+
+abbrev pub IsFile : PoolSource → Type 0
+IsFile (File path) = Unit {0}
+IsFile x = ⊥
+
+-- the pool would be too large
+pub record TooLarge (holds : List ℕ → List ℕ → Type 0) (source : PoolSource) : Type 0 where
+  pub pool : List ℕ
+  pub filled : FilledFrom holds source pool
+  pub above : 70000000 < length pool
+
+-- why a pool is not filled
+abbrev pub NoPool : (holds : List ℕ → List ℕ → Type 0) → PoolSource → Trouble → Type 0
+NoPool holds source trouble.Memory = Unit {0}
+NoPool holds source (trouble.Text f) = (f ≡ OutOfMemory → ⊥) → IsNoBytes source
+NoPool holds source trouble.File = IsFile source
+NoPool holds source trouble.LargePool = TooLarge holds source
+NoPool holds source e = ⊥
+
 -- ---- the sink
+
+-- why a sink is not read: for want of memory, or because it is of the other kind
+abbrev pub NotRead : (framewise other : Bool) → Trouble → Type 0
+NotRead framewise other e = (e ≡ trouble.Memory → ⊥) → (framewise ≡ other) × (e ≡ trouble.WrongSink)
 
 -- a frame's parts, its header in an encoder's bytes, and its payload at the front of a reader's memory
 pub record TellsFrame (p : Place) (form : EncoderForm) (out : List ℕ) (t : Taken) : Type 0 where

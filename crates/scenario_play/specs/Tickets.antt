@@ -1,6 +1,8 @@
 -- The tickets that a run holds.
-use Rattle.std.specs.Prelude.{ℕ, Bool, List, Option, Some, None, position, remove, ◌==◌}
+use Rattle.std.specs.Prelude.{ℕ, Bool, List, [], ◌∷◌, Option, Some, None, position, remove, ◌==◌}
 use Rattle.std.specs.List.{slice_get}
+use Rattle.link.specs.Calls.{Collect, step}
+use Rattle.link.specs.Views.{View}
 use Rattle.sender.specs.declared.ticket.Ticket.{Ticket}
 
 abbrev pub is_of : ℕ → Ticket → Bool
@@ -21,3 +23,8 @@ without_at (Some i) ts = remove ts i
 -- without the first of this number
 abbrev pub without : ℕ → List Ticket → List Ticket
 without number ts = without_at (position (is_of number) ts) ts
+
+-- a link whose tickets were collected, the last one first
+abbrev pub all_collected : List Ticket → View → View
+all_collected [] v = v
+all_collected (t ∷ ts) v = step (all_collected ts v) (Collect t.number)

@@ -1,4 +1,7 @@
 // A scenario played once for each of its steps, with a break there.
+ghost use Rattle.std.specs.Prelude.{Some};
+ghost use Rattle.scenario_play.specs.Breaks.{breaks_text};
+
 use crate::files::Files;
 use crate::play::Course;
 use crate::trouble::Failure;
@@ -13,6 +16,8 @@ pub struct Breaks {
 }
 
 impl fmt::Display for Breaks {
+    ghost output = { λ b. Some (breaks_text b) };
+
     fn fmt<W: fmt::Write>(&self, f: &mut fmt::Formatter<W>) -> fmt::Result {
         let places = self.places;
         let lost = self.lost;

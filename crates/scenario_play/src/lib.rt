@@ -5,6 +5,7 @@ pub mod answer;
 pub mod breaks;
 pub mod chosen;
 pub mod files;
+mod limited;
 mod lines;
 pub mod outlet;
 mod parts;

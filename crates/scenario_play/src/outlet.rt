@@ -1,9 +1,9 @@
 // The sinks of a scenario, and what they can do besides taking frames.
-ghost use Rattle.std.specs.Prelude.{◌≡◌, Bool, true, false, length, vec_items, Err, OnOk, OnErr, IfOk};
+ghost use Rattle.std.specs.Prelude.{◌≡◌, Bool, true, false, length, vec_items, Err, OnOk, OnErr, IfErr, IfOk};
 ghost use Rattle.queue.specs.Reading.{read_into};
 ghost use Rattle.sink.specs.Frames.{stopped_by};
 ghost use Rattle.spool.specs.Records.{records};
-ghost use Rattle.scenario_play.specs.declared.trouble.Trouble.TheVariants.{WrongSink};
+ghost use Rattle.scenario_play.specs.declared.trouble.Trouble.TheVariants.{WrongSink, Memory};
 ghost use Rattle.scenario_play.specs.Outlets.{taken_by, left_by, read_by, Emptied};
 
 use crate::trouble::Trouble;
@@ -33,6 +33,7 @@ pub trait Outlet: Sink + Drop {
     fn empty(&mut self, heap: Global) -> Result<Vec<u8>, Trouble>
         ensures whole { OnOk result (framewise ≡ false) }
         ensures frames { framewise ≡ true → result ≡ Err WrongSink }
+        ensures failed { framewise ≡ false → IfErr result (λ e. e ≡ Memory) }
         ensures bytes { IfOk result (λ v. vec_items v ≡ records (Self.Sink.model self.old).waiting) }
         ensures after { OnOk result (Emptied (Self.Sink.model self.old) (Self.Sink.model self.new)) }
         ensures kept { OnErr result (Self.Sink.model self.new ≡ Self.Sink.model self.old) };

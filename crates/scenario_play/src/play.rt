@@ -1,4 +1,13 @@
 // Playing a scenario, line by line.
+ghost use Rattle.std.specs.Prelude.{◌≡◌, ◌+◌, ◌&&◌, true, false, min, is_some, Ok, Some, vec_items, if◌then◌else◌, OnOk, IfOk, IfSome};
+ghost use Rattle.std.specs.Io.KnownBytes.{Appends};
+ghost use Rattle.scenario_text.specs.Commands.{IsCommand};
+ghost use Rattle.scenario_play.specs.Answers.{unmade};
+ghost use Rattle.scenario_play.specs.Comebacks.{Holding};
+ghost use Rattle.scenario_play.specs.Inputs.{Advances};
+ghost use Rattle.scenario_play.specs.Keeping.{all_kept};
+ghost use Rattle.scenario_play.specs.Playing.{answer_line, PlaysLine};
+
 use crate::answer::{Answer, Refusal};
 use crate::files::Files;
 use crate::lines::Lines;
@@ -31,22 +40,38 @@ pub(crate) struct Course<'p, R: Drop, F, W> {
     is_kept: bool,
 }
 
-// The next line's command, if there is one.
-fn next_command<'l, R: BufRead + Drop>(
-    lines: &'l mut Lines<R>,
+// Says what a command answered.
+fn tell<W: Write>(word: &str, answer: &Answer, out: &mut W) -> Result<(), Trouble>
+    ensures { OnOk result (Appends (W.contents out.old) (W.contents out.new) (answer_line word.now answer.now)) }
+{
+    writeln!(out, "{word}: {answer}")?;
+    Ok(())
+}
+
+// Carries out a line's command, and says what it answers.
+fn play_line<S: Outlet, F: Files, W: Write>(
+    line: &str,
+    player: &mut Player<'_, S>,
     list: &mut PeerList,
-) -> Result<Option<Command<'l>>, Trouble> {
-    if !lines.advance()? {
-        return Ok(None);
-    }
-    Ok(parse(lines.text()?, list)?)
+    files: &F,
+    out: &mut W,
+) -> Result<(), Trouble>
+    ensures { OnOk result (PlaysLine S.Outlet.framewise (F.holds files.now) line.now player.old player.new (W.contents out.old) (W.contents out.new)) }
+{
+    let Some(command) = parse(line, list)? else {
+        return Ok(());
+    };
+    let answer = player.perform(&command, list, files)?;
+    tell(word(&command), &answer, out)
 }
 
 fn memory_for(heap: Global, sizes: &LinkSizes) -> Result<LinkMemory, AllocError> {
     LinkMemory::with_rooms(heap, sizes.table, sizes.resume, sizes.resend, sizes.seats)
 }
 
-fn refused(e: MakeError) -> Answer {
+fn refused(e: MakeError) -> Answer
+    ensures { result ≡ unmade e }
+{
     Answer::Refused(Refusal::Number(e.number()))
 }
 
@@ -57,7 +82,12 @@ impl<'p, R: BufRead + Drop, F: Files, W: Write> Course<'p, R, F, W> {
         files: &'p F,
         out: &'p mut W,
         break_after: Option<u64>,
-    ) -> Course<'p, R, F, W> {
+    ) -> Course<'p, R, F, W>
+        ensures begun { (result.steps ≡ 0) × (result.is_kept ≡ true) }
+        ensures break_after { result.break_after ≡ break_after }
+        ensures input { result.lines.input.reader ≡ input }
+        ensures given { (result.files ≡ files.entry) × (result.out ≡ out.entry) }
+    {
         Course {
             heap,
             lines: Lines::new(heap, input),
@@ -70,9 +100,20 @@ impl<'p, R: BufRead + Drop, F: Files, W: Write> Course<'p, R, F, W> {
         }
     }
 
-    fn tell(&mut self, word: &str, answer: &Answer) -> Result<(), Trouble> {
-        writeln!(self.out, "{word}: {answer}")?;
-        Ok(())
+    fn tell(&mut self, word: &str, answer: &Answer) -> Result<(), Trouble>
+        ensures { OnOk result (Appends (W.contents self.old.out.now) (W.contents self.new.out.now) (answer_line word.now answer.now)) }
+    {
+        tell(word, answer, self.out)
+    }
+
+    // The next line's command, if there is one.
+    fn next_command(&mut self) -> Result<Option<Command<'_>>, Trouble>
+        ensures { IfOk result (λ o. IfSome o IsCommand) }
+    {
+        if !self.lines.advance()? {
+            return Ok(None);
+        }
+        Ok(parse(self.lines.text()?, &mut self.list)?)
     }
 
     // All lines.
@@ -84,7 +125,7 @@ impl<'p, R: BufRead + Drop, F: Files, W: Write> Course<'p, R, F, W> {
     }
 
     fn make_link(&mut self) -> Result<(), Trouble> {
-        let Some(Command::Link(sizes)) = next_command(&mut self.lines, &mut self.list)? else {
+        let Some(Command::Link(sizes)) = self.next_command()? else {
             return Err(Trouble::NoLink);
         };
         let mut memory = memory_for(self.heap, &sizes)?;
@@ -98,7 +139,7 @@ impl<'p, R: BufRead + Drop, F: Files, W: Write> Course<'p, R, F, W> {
     }
 
     fn make_sink(&mut self, link: SenderLink<'_>) -> Result<(), Trouble> {
-        match next_command(&mut self.lines, &mut self.list)? {
+        match self.next_command()? {
             Some(
                 Command::Queue {
                     places,
@@ -130,7 +171,7 @@ impl<'p, R: BufRead + Drop, F: Files, W: Write> Course<'p, R, F, W> {
         let mut player = Player::new(self.heap, link, sink)?;
         let played = self.go_on(&mut player);
         self.check(&player);
-        player.finish();
+        let _link = player.finish();
         played
     }
 
@@ -140,37 +181,57 @@ impl<'p, R: BufRead + Drop, F: Files, W: Write> Course<'p, R, F, W> {
             if !self.step(player)? {
                 return Ok(());
             }
+            self.break_here(player);
         }
         Ok(())
     }
 
-    // The next line, if there is one.
-    fn step<S: Outlet>(&mut self, player: &mut Player<'_, S>) -> Result<bool, Trouble> {
-        let Some(command) = next_command(&mut self.lines, &mut self.list)? else {
+    // The next line, if there is one: it stands in the memory then.
+    fn step<S: Outlet>(&mut self, player: &mut Player<'_, S>) -> Result<bool, Trouble>
+        ensures played { result ≡ Ok true → PlaysLine S.Outlet.framewise (F.holds self.old.files.now) (vec_items self.new.lines.line) player.old player.new (W.contents self.old.out.now) (W.contents self.new.out.now) }
+        ensures next { IfOk result (λ more. Advances more (vec_items self.new.lines.line) (R.remaining self.old.lines.input.reader) (R.remaining self.new.lines.input.reader)) }
+        ensures over { result ≡ Ok false → (player.new ≡ player.old) × (self.new.out.now ≡ self.old.out.now) }
+        ensures counted { IfOk result (λ more. self.new.steps ≡ (if more then min (self.old.steps + 1) 18446744073709551615 else self.old.steps)) }
+    {
+        if !self.lines.advance()? {
             return Ok(false);
-        };
-        let answer = player.perform(&command, &self.list, self.files)?;
-        writeln!(self.out, "{}: {answer}", word(&command))?;
+        }
+        let line = self.lines.text()?;
+        play_line(line, player, &mut self.list, self.files, self.out)?;
         self.steps = self.steps.saturating_add(1);
+        Ok(true)
+    }
+
+    // The link breaks after the step that was named.
+    fn break_here<S: Outlet>(&mut self, player: &mut Player<'_, S>)
+        ensures holding { Holding player.old player.new }
+        ensures elsewhere { (self.old.break_after ≡ Some self.old.steps → ⊥) → player.new ≡ player.old }
+    {
         if self.break_after == Some(self.steps) {
             player.break_off();
             self.check(player);
         }
-        Ok(true)
     }
 
-    fn check<S: Outlet>(&mut self, player: &Player<'_, S>) {
+    // Where the link is to break, each ticket has to be told or kept.
+    fn check<S: Outlet>(&mut self, player: &Player<'_, S>)
+        ensures { self.new.is_kept ≡ (if is_some self.old.break_after then self.old.is_kept && all_kept player.now else self.old.is_kept) }
+    {
         if self.break_after.is_some() {
             self.is_kept &= player.keeps_every_ticket();
         }
     }
 
-    pub fn steps(&self) -> u64 {
+    pub fn steps(&self) -> u64
+        ensures { result ≡ self.now.steps }
+    {
         self.steps
     }
 
     // No ticket was lost, wherever it was looked at: after the break, and at the end.
-    pub fn is_kept(&self) -> bool {
+    pub fn is_kept(&self) -> bool
+        ensures { result ≡ self.now.is_kept }
+    {
         self.is_kept
     }
 }

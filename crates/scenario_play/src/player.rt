@@ -1,6 +1,7 @@
 // A link on its stage: its sink, the pool, the encoder and the tickets that are held. Each command stands in the module of its kind.
 ghost use Rattle.std.specs.Prelude.{◌≡◌, IfOk};
 ghost use Rattle.scenario_play.specs.Scenes.{opening};
+ghost use Rattle.scenario_play.specs.Tickets.{all_collected};
 
 use crate::chosen::Chosen;
 use crate::outlet::Outlet;
@@ -55,8 +56,10 @@ impl<'a, S: Outlet> Player<'a, S> {
         })
     }
 
-    // Every ticket that is still held is collected.
-    pub fn finish(self) {
+    // The link, with every ticket collected that was still held.
+    pub fn finish(self) -> SenderLink<'a>
+        ensures { result ≡ all_collected self.entry.tickets self.entry.link }
+    {
         let Player {
             heap: _,
             mut link,
@@ -67,5 +70,6 @@ impl<'a, S: Outlet> Player<'a, S> {
             out: _,
         } = self;
         tickets.collect_all(&mut link);
+        link
     }
 }

@@ -1,7 +1,7 @@
 // The tickets that a run holds, in the order of their sends.
 ghost use Rattle.std.specs.Prelude.{◌≡◌, ◌<◌, ◌++◌, ◌∷◌, [], position, is_ok, length, IfSome, IfErr, if◌then◌else◌};
 ghost use Rattle.std.specs.Option.{option_copied};
-ghost use Rattle.scenario_play.specs.Tickets.{is_of, first_of, without};
+ghost use Rattle.scenario_play.specs.Tickets.{is_of, first_of, without, all_collected};
 
 use sender::sender_link::SenderLink;
 use sender::ticket::Ticket;
@@ -70,8 +70,11 @@ impl Tickets {
         Some(self.held.remove(i))
     }
 
-    // Every ticket is collected.
-    pub fn collect_all(self, link: &mut SenderLink<'_>) {
+    // Every ticket is collected, the last one first.
+    #[tactic(auto, using(crate::proofs::Collecting::all_collected_last))]
+    pub fn collect_all(self, link: &mut SenderLink<'_>)
+        ensures { link.new ≡ all_collected self link.old }
+    {
         let Tickets { mut held } = self;
         while let Some(ticket) = held.pop() {
             let _ = link.collect(ticket);

@@ -1,6 +1,7 @@
 // Why a scenario cannot go on: its lines ask for what is not there, or there is no more memory, input or output.
 ghost use Rattle.std.specs.Prelude.{◌≡◌};
-ghost use Rattle.scenario_play.specs.declared.trouble.Trouble.TheVariants.{Text, Memory};
+ghost use Rattle.scenario_play.specs.Troubles.{trouble_text, failure_text};
+ghost use Rattle.scenario_play.specs.declared.trouble.Trouble.TheVariants.{Text, Memory, Io};
 
 use scenario_text::fault::Fault;
 use std::alloc::{AllocError, AllocFailed};
@@ -48,6 +49,8 @@ impl<T: Drop> From<AllocFailed<T>> for Trouble {
 }
 
 impl From<io::Error> for Trouble {
+    ghost from_gives = { λ e t. t ≡ Io e };
+
     fn from(e: io::Error) -> Trouble {
         Trouble::Io(e)
     }
@@ -62,6 +65,8 @@ impl From<Fault> for Trouble {
 }
 
 impl fmt::Display for Trouble {
+    ghost output = { λ t. trouble_text t };
+
     fn fmt<W: fmt::Write>(&self, f: &mut fmt::Formatter<W>) -> fmt::Result {
         match self {
             Trouble::Text(fault) => write!(f, "{fault}"),
@@ -80,6 +85,8 @@ impl fmt::Display for Trouble {
 }
 
 impl fmt::Display for Failure {
+    ghost output = { λ f. failure_text f };
+
     fn fmt<W: fmt::Write>(&self, f: &mut fmt::Formatter<W>) -> fmt::Result {
         write!(f, "line {}: {}", self.line, self.trouble)
     }

@@ -8,6 +8,7 @@ pub mod Lists
 pub mod Numbers
 pub mod Outcomes
 pub mod Parts
+pub mod Pools
 pub mod Reading
 pub mod States
 pub mod Tags

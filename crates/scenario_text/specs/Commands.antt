@@ -215,9 +215,8 @@ abbrev pub ListIsOf : Command → List Pair → Type 0
 ListIsOf (c.Attach a) list = Unit {0}
 ListIsOf x list = list ≡ []
 
--- all commands but a pool and an attach
+-- all commands but an attach
 abbrev pub IsPlain : Command → Type 0
-IsPlain (c.Pool source) = ⊥
 IsPlain (c.Attach a) = ⊥
 IsPlain x = Unit {0}
 

@@ -1,6 +1,6 @@
 // What is wrong with a line.
-ghost use Rattle.std.specs.Prelude.{◌≡◌};
-ghost use Rattle.scenario_text.specs.Faults.{digits_fault};
+ghost use Rattle.std.specs.Prelude.{◌≡◌, Some};
+ghost use Rattle.scenario_text.specs.Faults.{digits_fault, fault_text};
 
 use headers_text::hex::HexFault;
 use std::fmt;
@@ -34,6 +34,8 @@ impl Fault {
 }
 
 impl fmt::Display for Fault {
+    ghost output = { λ f. Some (fault_text f) };
+
     fn fmt<W: fmt::Write>(&self, f: &mut fmt::Formatter<W>) -> fmt::Result {
         match *self {
             Fault::UnknownCommand => f.write_str("no such command"),
@@ -47,37 +49,5 @@ impl fmt::Display for Fault {
             Fault::WordTooMany => f.write_str("a word too many"),
             Fault::OutOfMemory => f.write_str("out of memory"),
         }
-    }
-}
-
-#[cfg(test)]
-mod tests {
-    use super::*;
-    use std::test::Fail;
-
-    #[test]
-    fn texts(rt: HostRuntime) -> Result<(), Fail> {
-        for (fault, text) in [
-            (Fault::UnknownCommand, "no such command"),
-            (Fault::Missing("count"), "count is missing"),
-            (Fault::OtherKey("count"), "count is expected here"),
-            (
-                Fault::NotInRange("count"),
-                "count is no number in its range",
-            ),
-            (Fault::OddDigits("tag"), "tag has half a byte"),
-            (
-                Fault::NoDigit("tag"),
-                "tag has a character that is no digit",
-            ),
-            (Fault::TooLong("tag"), "tag is longer than 32 bytes"),
-            (Fault::UnknownWord("state"), "state has an unknown value"),
-            (Fault::WordTooMany, "a word too many"),
-            (Fault::OutOfMemory, "out of memory"),
-        ] {
-            let told = fault.to_string(rt.alloc())?;
-            assert_eq!(rt; told.as_str(), text);
-        }
-        Ok(())
     }
 }

@@ -1,5 +1,5 @@
 // A line of a scenario.
-ghost use Rattle.std.specs.Prelude.{◌≡◌, [], ◌∷◌};
+ghost use Rattle.std.specs.Prelude.{◌≡◌, [], ◌∷◌, OnErr};
 ghost use Rattle.scenario_text.specs.Commands.{Commands};
 ghost use Rattle.scenario_text.specs.Lists.{listed};
 ghost use Rattle.scenario_text.specs.Parsing.{Parsed};
@@ -16,6 +16,20 @@ use crate::words::Words;
 
 // The command of a line, and `None` where the line is blank or a comment. The list then has the pairs of an attach, and else none.
 pub fn parse<'l>(line: &'l str, list: &mut PeerList) -> Result<Option<Command<'l>>, Fault>
+    ensures parsed { Parsed (words line.now) (listed list.new) result }
+    ensures none { OnErr result (listed list.new ≡ []) }
+{
+    match read_line(line, list) {
+        Ok(command) => Ok(command),
+        Err(fault) => {
+            list.clear();
+            Err(fault)
+        }
+    }
+}
+
+// The same, but that the list of an attach with a word too many stands.
+fn read_line<'l>(line: &'l str, list: &mut PeerList) -> Result<Option<Command<'l>>, Fault>
     ensures { Parsed (words line.now) (listed list.new) result }
 {
     list.clear();

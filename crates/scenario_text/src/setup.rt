@@ -1,7 +1,7 @@
 // The lines that make a link and its sink, and say what it works on.
-ghost use Rattle.std.specs.Prelude.{◌≡◌, [], ◌∷◌, ◌++◌, codes, IfOk};
+ghost use Rattle.std.specs.Prelude.{[], ◌∷◌, codes};
 ghost use Rattle.scenario_text.specs.Commands.{Commands, IsPool, pool_words};
-ghost use Rattle.scenario_text.specs.Words.{left, keyed};
+ghost use Rattle.scenario_text.specs.Words.{left, keyed, TakesOrNoMemory};
 
 use crate::command::{Command, EncoderForm, PoolSource};
 use crate::fault::Fault;
@@ -57,7 +57,7 @@ pub(crate) fn pool<'l>(words: &mut Words<'l>, heap: Global) -> Result<Command<'l
 
 #[tactic(auto, unfolding(crate::specs::Commands::pool_words))]
 fn source<'l>(words: &mut Words<'l>, heap: Global) -> Result<PoolSource<'l>, Fault>
-    ensures { IfOk result (λ s. IsPool s × (left words.old ≡ pool_words s ++ left words.new)) }
+    ensures { TakesOrNoMemory pool_words IsPool (left words.old) (left words.new) result }
 {
     let word = words.word("pool")?;
     if let Some(path) = value_of(word, "file") {
@@ -71,7 +71,7 @@ fn source<'l>(words: &mut Words<'l>, heap: Global) -> Result<PoolSource<'l>, Fau
 
 #[tactic(auto, unfolding(crate::specs::Commands::pool_words))]
 fn repeat<'l>(count: &str, words: &mut Words<'l>, heap: Global) -> Result<PoolSource<'l>, Fault>
-    ensures { IfOk result (λ s. IsPool s × (keyed (codes "repeat") count.now ∷ left words.old ≡ pool_words s ++ left words.new)) }
+    ensures { TakesOrNoMemory pool_words IsPool (keyed (codes "repeat") count.now ∷ left words.old) (left words.new) result }
 {
     let count = read_number(count, MAX_POOL as u64).ok_or(Fault::NotInRange("repeat"))?;
     Ok(PoolSource::Repeat {

@@ -1,5 +1,5 @@
 // The link's own calls.
-ghost use Rattle.std.specs.Prelude.{◌≡◌, IfOk};
+ghost use Rattle.std.specs.Prelude.{◌≡◌};
 ghost use Rattle.link.specs.Attaching.{open_answer, attach_answer};
 ghost use Rattle.link.specs.Calls.{Open, Attach as AttachCall, Flow, Send, Disposition, Dispose, Work, Resend, Detach, step};
 ghost use Rattle.link.specs.Credit.{flowed, flow_answer};
@@ -9,6 +9,7 @@ ghost use Rattle.scenario_text.specs.Lists.{listed};
 ghost use Rattle.scenario_play.specs.Attaches.{AttachesLine};
 ghost use Rattle.scenario_play.specs.Answers.{opened, attached, stepped, detached};
 ghost use Rattle.scenario_play.specs.Scenes.{with_link};
+ghost use Rattle.scenario_play.specs.Performing.{OrNoMemory};
 ghost use Rattle.scenario_play.specs.Puts.{SendsLine, DisposesLine, WorksLine, ResendsLine};
 
 use super::Player;
@@ -71,7 +72,7 @@ impl<'a, S: Outlet> Player<'a, S> {
     }
 
     pub(super) fn attach(&mut self, attach: &PeerAttach, list: &PeerList) -> Result<Answer, Trouble>
-        ensures { IfOk result (λ a. AttachesLine attach.now (listed list.now) self.old a self.new) }
+        ensures { OrNoMemory result (λ a. AttachesLine attach.now (listed list.now) self.old a self.new) }
     {
         let unsettled = list.deliveries()?;
         let attach = Attach {
@@ -94,7 +95,7 @@ impl<'a, S: Outlet> Player<'a, S> {
     }
 
     pub(super) fn send(&mut self, message: &Sendable) -> Result<Answer, Trouble>
-        ensures { IfOk result (λ a. SendsLine self.old message.now a self.new) }
+        ensures { OrNoMemory result (λ a. SendsLine self.old message.now a self.new) }
     {
         let sent = self.link.send(&mut self.sink, &self.encoder, self.pool.as_slice(), message);
         match sent {

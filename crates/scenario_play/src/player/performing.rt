@@ -21,7 +21,7 @@ impl<'a, S: Outlet> Player<'a, S> {
         list: &PeerList,
         files: &F,
     ) -> Result<Answer, Trouble>
-        ensures { Performs S.Outlet.framewise command.now (listed list.now) self.old result self.new }
+        ensures { Performs S.Outlet.framewise (F.holds files.now) command.now (listed list.now) self.old result self.new }
     {
         match command {
             Command::Link(_) | Command::Queue { .. } | Command::Spool { .. } => Err(Trouble::Again),

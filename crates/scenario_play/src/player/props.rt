@@ -1,8 +1,9 @@
 // What stands around the link: the pool, the encoder and the sink; and what is shown of all.
-ghost use Rattle.std.specs.Prelude.{◌≡◌, take, vec_items, IfOk};
+ghost use Rattle.std.specs.Prelude.{◌≡◌, true, false, take, vec_items, IfOk, MatchResult};
 ghost use Rattle.sink.specs.Frames.{stopped_by};
 ghost use Rattle.scenario_play.specs.Chosens.{bytes_of};
-ghost use Rattle.scenario_play.specs.Lines.{FillsLine, TellsTaken, TakesLine, EmptiesLine, ShowsLine, StatesLine};
+ghost use Rattle.scenario_play.specs.Lines.{FillsLine, NoPool, TellsTaken, TakesLine, NotRead, EmptiesLine, ShowsLine, StatesLine};
+ghost use Rattle.scenario_play.specs.Performing.{OrNoMemory};
 ghost use Rattle.scenario_play.specs.Scenes.{with_sink, with_encoder};
 
 use super::Player;
@@ -70,7 +71,7 @@ impl<'a, S: Outlet> Player<'a, S> {
         source: &PoolSource<'_>,
         files: &F,
     ) -> Result<Answer, Trouble>
-        ensures { IfOk result (λ a. FillsLine source.now self.old a self.new) }
+        ensures { MatchResult result (λ a. FillsLine (F.holds files.now) source.now self.old a self.new) (NoPool (F.holds files.now) source.now) }
     {
         let pool = match *source {
             PoolSource::Digits(text) => read_bytes(text, self.heap).map_err(
@@ -87,14 +88,14 @@ impl<'a, S: Outlet> Player<'a, S> {
     }
 
     pub(super) fn take(&mut self) -> Result<Answer, Trouble>
-        ensures { IfOk result (λ a. TakesLine S.Outlet.framewise self.old a self.new) }
+        ensures { MatchResult result (λ a. TakesLine S.Outlet.framewise self.old a self.new) (NotRead S.Outlet.framewise false) }
     {
         let place = self.sink.take(&mut self.out)?;
         Ok(tell(self.heap, &self.encoder, place, self.out.as_slice())?)
     }
 
     pub(super) fn empty(&mut self) -> Result<Answer, Trouble>
-        ensures { IfOk result (λ a. EmptiesLine S.Outlet.framewise self.old a self.new) }
+        ensures { MatchResult result (λ a. EmptiesLine S.Outlet.framewise self.old a self.new) (NotRead S.Outlet.framewise true) }
     {
         Ok(Answer::Records(self.sink.empty(self.heap)?))
     }
@@ -113,7 +114,7 @@ impl<'a, S: Outlet> Player<'a, S> {
         partial_unsettled: usize,
         room: usize,
     ) -> Result<Answer, Trouble>
-        ensures { IfOk result (λ a. ShowsLine is_reattaching partial_unsettled room self.now a) }
+        ensures { OrNoMemory result (ShowsLine is_reattaching partial_unsettled room self.now) }
     {
         let mut out = vec![in self.heap; Slot::default(); room]?;
         let shown = self
@@ -130,7 +131,7 @@ impl<'a, S: Outlet> Player<'a, S> {
     }
 
     pub(super) fn snapshot(&self) -> Result<Answer, Trouble>
-        ensures { IfOk result (λ a. StatesLine a self.now.link) }
+        ensures { OrNoMemory result (λ a. StatesLine a self.now.link) }
     {
         Ok(Answer::Whole(Snapshot::new(self.heap, &self.link)?))
     }

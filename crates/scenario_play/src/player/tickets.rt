@@ -1,9 +1,11 @@
 // Tickets: held, looked at and collected.
-ghost use Rattle.std.specs.Prelude.{◌≡◌, ◌++◌, ◌∷◌, [], OnOk, IfOk};
+ghost use Rattle.std.specs.Prelude.{◌≡◌, ◌++◌, ◌∷◌, [], OnOk, OnErr};
+ghost use Rattle.link.specs.Calls.{Collect, step};
 ghost use Rattle.link.specs.Disposing.{looked};
 ghost use Rattle.scenario_play.specs.Answers.{told};
 ghost use Rattle.scenario_play.specs.Looks.{look_answer, collected};
-ghost use Rattle.scenario_play.specs.Scenes.{with_tickets};
+ghost use Rattle.scenario_play.specs.Performing.{OrNoMemory};
+ghost use Rattle.scenario_play.specs.Scenes.{with_link, with_tickets};
 
 use super::Player;
 use crate::answer::{Answer, Refusal};
@@ -25,8 +27,9 @@ fn tell(outcome: Result<Option<Outcome>, TicketError>) -> Answer
 impl<'a, S: Outlet> Player<'a, S> {
     // A ticket that finds no memory is collected at once.
     pub(super) fn hold(&mut self, ticket: Ticket) -> Result<Answer, Trouble>
-        ensures answer { IfOk result (λ a. a ≡ Answer.Ticket ticket.number) }
+        ensures answer { OrNoMemory result (λ a. a ≡ Answer.Ticket ticket.number) }
         ensures scene { OnOk result (self.new ≡ with_tickets (self.old.tickets ++ ticket ∷ []) self.old) }
+        ensures lost { OnErr result (self.new ≡ with_link (step self.old.link (Collect ticket.number)) self.old) }
     {
         let number = ticket.number();
         match self.tickets.hold(ticket) {

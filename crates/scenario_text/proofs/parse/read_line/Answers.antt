@@ -3,7 +3,7 @@ use Rattle.std.proofs.lemmas.Result.{err_from_is_err_and}
 use Rattle.scenario_text.specs.Lists.{listed}
 use Rattle.scenario_text.specs.Words.{words, left}
 use Rattle.scenario_text.proofs.Lines.{no_command, too_many}
-use Rattle.scenario_text.proofs.parse.parse.Goals as goal
+use Rattle.scenario_text.proofs.parse.read_line.Goals as goal
 
 pub returns-in_err-command : goal.returns-in_err-command
 returns-in_err-command c =
