@@ -145,6 +145,7 @@ impl<'a> SenderLink<'a> {
     // The table is emptied, and each of its deliveries waits for its turn or has ended. The peer's pairs are at most N.
     fn resume_with<const N: usize>(&mut self, attach: &Attach<'_>)
         requires legal { LegalTags attach.now.unsettled.now }
+        requires size { N ≤ 1024 }
         requires few { length attach.now.unsettled.now ≤ N }
         requires room { length self.old.held.resume + length self.old.held.table ≤ self.old.rooms.resume }
         ensures { self.new ≡ landed self.old (holding self.old (resumed self.old attach.now) (flat_map (end_of attach.now) self.old.held.table)) }
