@@ -83,7 +83,10 @@ fn run<S: Outbox, W: Write + Drop>(
     spool: &mut SpoolFile<W>,
 ) -> Result<(), Failed> {
     let heap = rt.alloc();
-    let mut memory = LinkMemory::with_entries(heap, ENTRIES).map_err(|_| fail(rt, ShipError::NoMemory))?;
+    let mut memory = LinkMemory::with_entries(heap, ENTRIES).map_err(|_| fail(
+        rt,
+        ShipError::NoMemory,
+    ))?;
     let opened: Result<Dock<'_, S>, ShipError> = Dock::open(
         heap,
         &mut memory,

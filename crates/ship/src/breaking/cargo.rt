@@ -1,8 +1,9 @@
 // The messages of all files, end to end in one pool.
-ghost use Rattle.std.specs.Prelude.{◌≡◌, ◌≢◌, true, None, ◌++◌, OnOk};
+ghost use Rattle.std.specs.Prelude.{◌≡◌, true, None, ◌++◌, ◌∷◌, [], length, OnOk};
 ghost use Rattle.link.specs.Sending.{message};
 ghost use Rattle.shipping.specs.Sections.{data_section};
 ghost use Rattle.shipping.specs.Texts.{is_accepted};
+ghost use Rattle.ship.specs.Cargoes.{learned, loaded};
 
 use crate::breaking::trouble::Trouble;
 use amqp::condition::AmqpError;
@@ -61,7 +62,7 @@ impl Consignment {
     // What its ticket tells once the archive has answered for a delivery. No file is accepted with bytes that are not its own.
     pub fn learn(&mut self, told: Option<Outcome>, part: &Part, pool: &[u8]) -> Result<(), Trouble>
         ensures own { OnOk result (self.old.outcome ≡ None → is_accepted self.new.outcome ≡ true → part.now.bytes ≡ message pool.now self.new.place) }
-        ensures once { self.old.outcome ≢ None → self.new ≡ self.old }
+        ensures after { self.new ≡ learned self.old.outcome told part.now.frames self.old }
     {
         if self.outcome.is_some() || told.is_none() {
             return Ok(());
@@ -85,7 +86,8 @@ impl Cargo {
 
     // The file's message joins the end of the pool.
     pub fn load(&mut self, heap: Global, file: &[u8]) -> Result<(), Trouble>
-        ensures { OnOk result (self.new.pool.items ≡ self.old.pool.items ++ data_section file.now) }
+        ensures pool { OnOk result (self.new.pool.items ≡ self.old.pool.items ++ data_section file.now) }
+        ensures files { OnOk result (self.new.files.items ≡ self.old.files.items ++ loaded (length self.old.pool.items) (length (data_section file.now)) (length file.now) ∷ []) }
     {
         let message = data_section(heap, file)?;
         let place = Place {
