@@ -1,1 +1,1 @@
-pub mod Cargo
+pub mod Cargoes

@@ -1,7 +1,7 @@
 // The messages of all files, end to end in one pool.
-ghost use Rattle.std.specs.Prelude.{◌≡◌, ◌≢◌, true, false, None, [], ◌∷◌, ◌++◌, length, Decides, OnOk, OnErr};
+ghost use Rattle.std.specs.Prelude.{◌≡◌, true, false, None, [], ◌∷◌, ◌++◌, length, Decides, OnOk, OnErr};
 ghost use Rattle.link.specs.Sending.{message};
-ghost use Rattle.ship.specs.Cargo.{loaded};
+ghost use Rattle.ship.specs.Cargoes.{learned, loaded};
 ghost use Rattle.shipping.specs.Sections.{data_section};
 ghost use Rattle.shipping.specs.Texts.{is_accepted};
 ghost use Rattle.unsettled.specs.Messages.{outside};
@@ -63,8 +63,7 @@ impl Consignment {
     // What its ticket tells once the archive has answered for a delivery. No file is accepted with bytes that are not its own.
     pub fn learn(&mut self, told: Option<Outcome>, part: &Part, pool: &[u8]) -> Result<(), Trouble>
         ensures own { self.old.outcome ≡ None → is_accepted self.new.outcome ≡ true → part.now.bytes ≡ message pool.now self.new.place }
-        ensures once { self.old.outcome ≢ None → self.new ≡ self.old }
-        ensures told { OnOk result (self.old.outcome ≡ None → self.new.outcome ≡ told) }
+        ensures after { OnOk result (self.new ≡ learned self.old.outcome told part.now.frames self.old) }
         ensures kept { OnErr result (self.new ≡ self.old) }
     {
         if self.outcome.is_some() || told.is_none() {
