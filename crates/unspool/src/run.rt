@@ -1,4 +1,6 @@
 // Reading files, each whole.
+ghost use Rattle.std.specs.Prelude.{◌≡◌, ◌+◌, ◌++◌, min, length, codes, decimal, Some};
+
 use crate::line::Line;
 use anyhow::Result;
 use codec::error::ReadError;
@@ -15,13 +17,19 @@ struct Tally {
 }
 
 impl Tally {
-    fn count(&mut self, frame: &Frame<'_>) {
+    // A count that would be too large stays at the largest.
+    fn count(&mut self, frame: &Frame<'_>)
+        ensures records { self.new.records ≡ min (self.old.records + 1) 18446744073709551615 }
+        ensures payload { self.new.payload ≡ min (self.old.payload + length frame.now.payload.now) 18446744073709551615 }
+    {
         self.records = self.records.saturating_add(1);
         self.payload = self.payload.saturating_add(frame.payload.len() as u64);
     }
 }
 
 impl fmt::Display for Tally {
+    ghost output = { λ t. Some (decimal t.records ++ (codes " records, " ++ (decimal t.payload ++ codes " bytes of payload"))) };
+
     fn fmt<W: fmt::Write>(&self, f: &mut fmt::Formatter<W>) -> fmt::Result {
         write!(
             f,
