@@ -37,8 +37,8 @@ fn rehearse<F: Files>(
     break_after: Option<u64>,
 ) -> Result<(u64, bool), Failure> {
     let mut unheard = io::sink();
-    let mut course = Course::new(heap, scenario, files, &mut unheard, break_after);
-    course.run()?;
+    let mut course = Course::new(heap, scenario, break_after);
+    course.run(files, &mut unheard)?;
     Ok((course.steps(), course.is_kept()))
 }
 
