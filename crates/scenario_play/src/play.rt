@@ -1,9 +1,10 @@
 // Playing a scenario, line by line.
-ghost use Rattle.std.specs.Prelude.{◌≡◌, ◌+◌, ◌&&◌, true, false, min, is_some, Ok, Some, vec_items, if◌then◌else◌, OnOk, IfOk, IfErr, IfSome};
+ghost use Rattle.std.specs.Prelude.{◌≡◌, ◌&&◌, true, false, length, is_some, Ok, Some, vec_items, if◌then◌else◌, OnOk, IfOk, IfErr, IfSome};
 ghost use Rattle.std.specs.Io.KnownBytes.{Appends};
 ghost use Rattle.memory.specs.Sizes.{rooms_in, seats_in};
 ghost use Rattle.sender.specs.Views.{rooms_of};
 ghost use Rattle.scenario_play.specs.Answers.{unmade};
+ghost use Rattle.scenario_play.specs.Breaks.{StepsBehind};
 ghost use Rattle.scenario_play.specs.Comebacks.{Holding};
 ghost use Rattle.scenario_play.specs.Courses.{Plays, GoesOn, PlaysSecond, PlaysAll};
 ghost use Rattle.scenario_play.specs.Inputs.{told_lines, Advances};
@@ -35,8 +36,6 @@ pub(crate) struct Course<R: Drop> {
     // The peer's map of an attach's line.
     list: PeerList,
     break_after: Option<u64>,
-    // How many commands were carried out after the two first.
-    steps: u64,
     is_kept: bool,
 }
 
@@ -77,16 +76,18 @@ fn refused(e: MakeError) -> Answer
     Answer::Refused(Refusal::Number(e.number()))
 }
 
-// Says that the link or its sink is refused.
-fn tell_refused<W: Write>(word: &str, e: MakeError, out: &mut W) -> Result<(), Trouble>
-    ensures { OnOk result (Appends (W.contents out.old) (W.contents out.new) (answer_line word.now (unmade e))) }
+// Says that the link or its sink is refused: no other line is played.
+fn tell_refused<W: Write>(word: &str, e: MakeError, out: &mut W) -> Result<u64, Trouble>
+    ensures told { OnOk result (Appends (W.contents out.old) (W.contents out.new) (answer_line word.now (unmade e))) }
+    ensures none { IfOk result (λ steps. steps ≡ 0) }
 {
-    tell(word, &refused(e), out)
+    tell(word, &refused(e), out)?;
+    Ok(0)
 }
 
 impl<R: BufRead + Drop> Course<R> {
     pub fn new(heap: Global, input: R, break_after: Option<u64>) -> Course<R>
-        ensures begun { (result.steps ≡ 0) × (result.is_kept ≡ true) }
+        ensures kept { result.is_kept ≡ true }
         ensures break_after { result.break_after ≡ break_after }
         ensures input { result.lines.input.reader ≡ input }
     {
@@ -95,18 +96,18 @@ impl<R: BufRead + Drop> Course<R> {
             lines: Lines::new(heap, input),
             list: PeerList::new(heap),
             break_after,
-            steps: 0,
             is_kept: true,
         }
     }
 
-    // All lines.
-    pub fn run<F: Files, W: Write>(&mut self, files: &F, out: &mut W) -> Result<(), Failure>
+    // All lines, and how many there were after the two first: none where one of these is refused.
+    pub fn run<F: Files, W: Write>(&mut self, files: &F, out: &mut W) -> Result<u64, Failure>
         ensures played { self.old.break_after ≡ None → OnOk result (IfSome (R.remaining self.old.lines.input.reader) (λ xs. PlaysAll (F.holds files.now) (told_lines xs) (W.contents out.old) (W.contents out.new))) }
+        ensures counted { IfOk result (λ steps. IfSome (R.remaining self.old.lines.input.reader) (λ xs. StepsBehind 2 (told_lines xs) steps)) }
         ensures line { IfErr result (λ failure. failure.line ≡ self.new.lines.number) }
     {
         match self.make_link(files, out) {
-            Ok(()) => Ok(()),
+            Ok(steps) => Ok(steps),
             Err(trouble) => Err(Failure {
                 line: self.lines.number(),
                 trouble,
@@ -115,8 +116,9 @@ impl<R: BufRead + Drop> Course<R> {
     }
 
     // The first line makes the link.
-    fn make_link<F: Files, W: Write>(&mut self, files: &F, out: &mut W) -> Result<(), Trouble>
-        ensures { self.old.break_after ≡ None → OnOk result (IfSome (R.remaining self.old.lines.input.reader) (λ xs. PlaysAll (F.holds files.now) (told_lines xs) (W.contents out.old) (W.contents out.new))) }
+    fn make_link<F: Files, W: Write>(&mut self, files: &F, out: &mut W) -> Result<u64, Trouble>
+        ensures played { self.old.break_after ≡ None → OnOk result (IfSome (R.remaining self.old.lines.input.reader) (λ xs. PlaysAll (F.holds files.now) (told_lines xs) (W.contents out.old) (W.contents out.new))) }
+        ensures counted { IfOk result (λ steps. IfSome (R.remaining self.old.lines.input.reader) (λ xs. StepsBehind 2 (told_lines xs) steps)) }
     {
         if !self.lines.advance()? {
             return Err(Trouble::NoLink);
@@ -140,8 +142,9 @@ impl<R: BufRead + Drop> Course<R> {
         link: SenderLink<'_>,
         files: &F,
         out: &mut W,
-    ) -> Result<(), Trouble>
-        ensures { self.old.break_after ≡ None → OnOk result (IfSome (R.remaining self.old.lines.input.reader) (λ xs. PlaysSecond (F.holds files.now) link.entry (told_lines xs) (W.contents out.old) (W.contents out.new))) }
+    ) -> Result<u64, Trouble>
+        ensures played { self.old.break_after ≡ None → OnOk result (IfSome (R.remaining self.old.lines.input.reader) (λ xs. PlaysSecond (F.holds files.now) link.entry (told_lines xs) (W.contents out.old) (W.contents out.new))) }
+        ensures counted { IfOk result (λ steps. IfSome (R.remaining self.old.lines.input.reader) (λ xs. StepsBehind 1 (told_lines xs) steps)) }
     {
         if !self.lines.advance()? {
             return Err(Trouble::NoSink);
@@ -175,8 +178,9 @@ impl<R: BufRead + Drop> Course<R> {
         sink: S,
         files: &F,
         out: &mut W,
-    ) -> Result<(), Trouble>
-        ensures { self.old.break_after ≡ None → OnOk result (IfSome (R.remaining self.old.lines.input.reader) (λ xs. GoesOn S.Outlet.framewise (F.holds files.now) word.now link.entry (S.Sink.model sink) (told_lines xs) (W.contents out.old) (W.contents out.new))) }
+    ) -> Result<u64, Trouble>
+        ensures played { self.old.break_after ≡ None → OnOk result (IfSome (R.remaining self.old.lines.input.reader) (λ xs. GoesOn S.Outlet.framewise (F.holds files.now) word.now link.entry (S.Sink.model sink) (told_lines xs) (W.contents out.old) (W.contents out.new))) }
+        ensures counted { IfOk result (λ steps. IfSome (R.remaining self.old.lines.input.reader) (λ xs. steps ≡ length (told_lines xs))) }
     {
         tell(word, &Answer::Made, out)?;
         let mut player = Player::new(self.heap, link, sink)?;
@@ -192,14 +196,15 @@ impl<R: BufRead + Drop> Course<R> {
         player: &mut Player<'_, S>,
         files: &F,
         out: &mut W,
-    ) -> Result<(), Trouble>
-        ensures { self.old.break_after ≡ None → OnOk result (IfSome (R.remaining self.old.lines.input.reader) (λ xs. Plays S.Outlet.framewise (F.holds files.now) (told_lines xs) player.old player.new (W.contents out.old) (W.contents out.new))) }
+    ) -> Result<u64, Trouble>
+        ensures played { self.old.break_after ≡ None → OnOk result (IfSome (R.remaining self.old.lines.input.reader) (λ xs. Plays S.Outlet.framewise (F.holds files.now) (told_lines xs) player.old player.new (W.contents out.old) (W.contents out.new))) }
+        ensures counted { IfOk result (λ steps. IfSome (R.remaining self.old.lines.input.reader) (λ xs. steps ≡ length (told_lines xs))) }
     {
-        for _ in 0..u64::MAX {
+        for steps in 0..u64::MAX {
             if !self.step(player, files, out)? {
-                return Ok(());
+                return Ok(steps);
             }
-            self.break_here(player);
+            self.break_here(steps + 1, player);
         }
         Err(Trouble::TooLong)
     }
@@ -214,7 +219,6 @@ impl<R: BufRead + Drop> Course<R> {
         ensures played { result ≡ Ok true → PlaysLine S.Outlet.framewise (F.holds files.now) (vec_items self.new.lines.line) player.old player.new (W.contents out.old) (W.contents out.new) }
         ensures next { IfOk result (λ more. Advances more (vec_items self.new.lines.line) (R.remaining self.old.lines.input.reader) (R.remaining self.new.lines.input.reader)) }
         ensures over { result ≡ Ok false → (player.new ≡ player.old) × (out.new ≡ out.old) }
-        ensures counted { IfOk result (λ more. self.new.steps ≡ (if more then min (self.old.steps + 1) 18446744073709551615 else self.old.steps)) }
         ensures break_after { self.new.break_after ≡ self.old.break_after }
     {
         if !self.lines.advance()? {
@@ -222,17 +226,16 @@ impl<R: BufRead + Drop> Course<R> {
         }
         let line = self.lines.text()?;
         play_line(line, player, &mut self.list, files, out)?;
-        self.steps = self.steps.saturating_add(1);
         Ok(true)
     }
 
     // The link breaks after the step that was named.
-    fn break_here<S: Outlet>(&mut self, player: &mut Player<'_, S>)
+    fn break_here<S: Outlet>(&mut self, steps: u64, player: &mut Player<'_, S>)
         ensures holding { Holding player.old player.new }
-        ensures elsewhere { (self.old.break_after ≡ Some self.old.steps → ⊥) → player.new ≡ player.old }
-        ensures rest { (self.new.lines ≡ self.old.lines) × (self.new.break_after ≡ self.old.break_after) × (self.new.steps ≡ self.old.steps) }
+        ensures elsewhere { (self.old.break_after ≡ Some steps → ⊥) → player.new ≡ player.old }
+        ensures rest { (self.new.lines ≡ self.old.lines) × (self.new.break_after ≡ self.old.break_after) }
     {
-        if self.break_after == Some(self.steps) {
+        if self.break_after == Some(steps) {
             player.break_off();
             self.check(player);
         }
@@ -241,17 +244,11 @@ impl<R: BufRead + Drop> Course<R> {
     // Where the link is to break, each ticket has to be told or kept.
     fn check<S: Outlet>(&mut self, player: &Player<'_, S>)
         ensures kept { self.new.is_kept ≡ (if is_some self.old.break_after then self.old.is_kept && all_kept player.now else self.old.is_kept) }
-        ensures rest { (self.new.lines ≡ self.old.lines) × (self.new.break_after ≡ self.old.break_after) × (self.new.steps ≡ self.old.steps) }
+        ensures rest { (self.new.lines ≡ self.old.lines) × (self.new.break_after ≡ self.old.break_after) }
     {
         if self.break_after.is_some() {
             self.is_kept &= player.keeps_every_ticket();
         }
-    }
-
-    pub fn steps(&self) -> u64
-        ensures { result ≡ self.now.steps }
-    {
-        self.steps
     }
 
     // No ticket was lost, wherever it was looked at: after the break, and at the end.
@@ -271,5 +268,6 @@ pub fn play<R: BufRead + Drop, F: Files, W: Write>(
 ) -> Result<(), Failure>
     ensures { OnOk result (IfSome (R.remaining input) (λ xs. PlaysAll (F.holds files.now) (told_lines xs) (W.contents out.old) (W.contents out.new))) }
 {
-    Course::new(heap, input, None).run(files, out)
+    Course::new(heap, input, None).run(files, out)?;
+    Ok(())
 }
