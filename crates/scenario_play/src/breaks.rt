@@ -1,6 +1,7 @@
 // A scenario played once for each of its steps, with a break there.
-ghost use Rattle.std.specs.Prelude.{◌≤◌, Some, IfOk};
-ghost use Rattle.scenario_play.specs.Breaks.{StepsBehind, breaks_text};
+ghost use Rattle.std.specs.Prelude.{◌≡◌, ◌≤◌, None, Some, IfOk};
+ghost use Rattle.scenario_play.specs.Breaks.{breaks_text};
+ghost use Rattle.scenario_play.specs.Courses.{PlaysIn};
 ghost use Rattle.scenario_play.specs.Inputs.{told_lines};
 
 use crate::files::Files;
@@ -37,7 +38,7 @@ fn rehearse<F: Files>(
     files: &F,
     break_after: Option<u64>,
 ) -> Result<(u64, bool), Failure>
-    ensures { IfOk result (λ r. StepsBehind 2 (told_lines scenario.now) r.0) }
+    ensures { break_after ≡ None → IfOk result (λ r. PlaysIn (F.holds files.now) (told_lines scenario.now) r.0 None None) }
 {
     let mut unheard = io::sink();
     let mut course = Course::new(heap, scenario, break_after);
@@ -47,7 +48,7 @@ fn rehearse<F: Files>(
 
 // Plays a scenario anew for each of its steps, breaks the link there, and goes on.
 pub fn play_breaks<F: Files>(heap: Global, scenario: &[u8], files: &F) -> Result<Breaks, Failure>
-    ensures places { IfOk result (λ b. StepsBehind 2 (told_lines scenario.now) b.places) }
+    ensures places { IfOk result (λ b. PlaysIn (F.holds files.now) (told_lines scenario.now) b.places None None) }
     ensures lost { IfOk result (λ b. b.lost ≤ b.places) }
 {
     let (places, _) = rehearse(heap, scenario, files, None)?;

@@ -4,9 +4,8 @@ ghost use Rattle.std.specs.Io.KnownBytes.{Appends};
 ghost use Rattle.memory.specs.Sizes.{rooms_in, seats_in};
 ghost use Rattle.sender.specs.Views.{rooms_of};
 ghost use Rattle.scenario_play.specs.Answers.{unmade};
-ghost use Rattle.scenario_play.specs.Breaks.{StepsBehind};
 ghost use Rattle.scenario_play.specs.Comebacks.{Holding};
-ghost use Rattle.scenario_play.specs.Courses.{Plays, GoesOn, PlaysSecond, PlaysAll};
+ghost use Rattle.scenario_play.specs.Courses.{Plays, GoesOn, Ends, PlaysSecond, PlaysIn, PlaysAll};
 ghost use Rattle.scenario_play.specs.Inputs.{told_lines, Advances};
 ghost use Rattle.scenario_play.specs.Keeping.{all_kept};
 ghost use Rattle.scenario_play.specs.Playing.{answer_line, PlaysLine};
@@ -78,8 +77,7 @@ fn refused(e: MakeError) -> Answer
 
 // Says that the link or its sink is refused: no other line is played.
 fn tell_refused<W: Write>(word: &str, e: MakeError, out: &mut W) -> Result<u64, Trouble>
-    ensures told { OnOk result (Appends (W.contents out.old) (W.contents out.new) (answer_line word.now (unmade e))) }
-    ensures none { IfOk result (λ steps. steps ≡ 0) }
+    ensures { IfOk result (λ steps. Ends word.now e steps (W.contents out.old) (W.contents out.new)) }
 {
     tell(word, &refused(e), out)?;
     Ok(0)
@@ -102,8 +100,7 @@ impl<R: BufRead + Drop> Course<R> {
 
     // All lines, and how many there were after the two first: none where one of these is refused.
     pub fn run<F: Files, W: Write>(&mut self, files: &F, out: &mut W) -> Result<u64, Failure>
-        ensures played { self.old.break_after ≡ None → OnOk result (IfSome (R.remaining self.old.lines.input.reader) (λ xs. PlaysAll (F.holds files.now) (told_lines xs) (W.contents out.old) (W.contents out.new))) }
-        ensures counted { IfOk result (λ steps. IfSome (R.remaining self.old.lines.input.reader) (λ xs. StepsBehind 2 (told_lines xs) steps)) }
+        ensures played { self.old.break_after ≡ None → IfOk result (λ steps. IfSome (R.remaining self.old.lines.input.reader) (λ xs. PlaysIn (F.holds files.now) (told_lines xs) steps (W.contents out.old) (W.contents out.new))) }
         ensures line { IfErr result (λ failure. failure.line ≡ self.new.lines.number) }
     {
         match self.make_link(files, out) {
@@ -117,8 +114,7 @@ impl<R: BufRead + Drop> Course<R> {
 
     // The first line makes the link.
     fn make_link<F: Files, W: Write>(&mut self, files: &F, out: &mut W) -> Result<u64, Trouble>
-        ensures played { self.old.break_after ≡ None → OnOk result (IfSome (R.remaining self.old.lines.input.reader) (λ xs. PlaysAll (F.holds files.now) (told_lines xs) (W.contents out.old) (W.contents out.new))) }
-        ensures counted { IfOk result (λ steps. IfSome (R.remaining self.old.lines.input.reader) (λ xs. StepsBehind 2 (told_lines xs) steps)) }
+        ensures { self.old.break_after ≡ None → IfOk result (λ steps. IfSome (R.remaining self.old.lines.input.reader) (λ xs. PlaysIn (F.holds files.now) (told_lines xs) steps (W.contents out.old) (W.contents out.new))) }
     {
         if !self.lines.advance()? {
             return Err(Trouble::NoLink);
@@ -143,8 +139,7 @@ impl<R: BufRead + Drop> Course<R> {
         files: &F,
         out: &mut W,
     ) -> Result<u64, Trouble>
-        ensures played { self.old.break_after ≡ None → OnOk result (IfSome (R.remaining self.old.lines.input.reader) (λ xs. PlaysSecond (F.holds files.now) link.entry (told_lines xs) (W.contents out.old) (W.contents out.new))) }
-        ensures counted { IfOk result (λ steps. IfSome (R.remaining self.old.lines.input.reader) (λ xs. StepsBehind 1 (told_lines xs) steps)) }
+        ensures { self.old.break_after ≡ None → IfOk result (λ steps. IfSome (R.remaining self.old.lines.input.reader) (λ xs. PlaysSecond (F.holds files.now) link.entry (told_lines xs) steps (W.contents out.old) (W.contents out.new))) }
     {
         if !self.lines.advance()? {
             return Err(Trouble::NoSink);
@@ -179,8 +174,7 @@ impl<R: BufRead + Drop> Course<R> {
         files: &F,
         out: &mut W,
     ) -> Result<u64, Trouble>
-        ensures played { self.old.break_after ≡ None → OnOk result (IfSome (R.remaining self.old.lines.input.reader) (λ xs. GoesOn S.Outlet.framewise (F.holds files.now) word.now link.entry (S.Sink.model sink) (told_lines xs) (W.contents out.old) (W.contents out.new))) }
-        ensures counted { IfOk result (λ steps. IfSome (R.remaining self.old.lines.input.reader) (λ xs. steps ≡ length (told_lines xs))) }
+        ensures { self.old.break_after ≡ None → IfOk result (λ steps. IfSome (R.remaining self.old.lines.input.reader) (λ xs. GoesOn S.Outlet.framewise (F.holds files.now) word.now link.entry (S.Sink.model sink) (told_lines xs) steps (W.contents out.old) (W.contents out.new))) }
     {
         tell(word, &Answer::Made, out)?;
         let mut player = Player::new(self.heap, link, sink)?;
