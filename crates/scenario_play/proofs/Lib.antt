@@ -2,3 +2,4 @@ pub mod Spacing
 pub mod Collecting
 pub mod Blanks
 pub mod Telling
+pub mod Courses

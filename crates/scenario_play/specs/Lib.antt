@@ -17,3 +17,4 @@ pub mod Breaks
 pub mod Inputs
 pub mod Playing
 pub mod Performing
+pub mod Courses

@@ -1,13 +1,12 @@
 -- A line of a scenario played: its command carried out, and what is printed of it.
-use Rattle.std.specs.Prelude.{◌≡◌, ℕ, ◌⊎◌, Bool, true, false, List, [], ◌∷◌, ◌++◌, codes, Option, Some, Ok}
-use Rattle.std.specs.Io.KnownBytes.{Keeps, Appends}
+use Rattle.std.specs.Prelude.{◌≡◌, ℕ, ◌⊎◌, Bool, List, [], ◌∷◌, ◌++◌, codes, Option, Some, Ok}
+use Rattle.std.specs.Io.KnownBytes.{Appends}
 use Rattle.std.specs.List.{slice_get}
 use Rattle.scenario_text.specs.declared.command.Command.{Command}
 use Rattle.scenario_text.specs.Commands.{Pair, IsCommand, ListIsOf, words_of}
 use Rattle.scenario_text.specs.Parsing.{IsPassed}
 use Rattle.scenario_text.specs.Words.{words}
 use Rattle.scenario_play.specs.declared.answer.Answer.{Answer}
-use Rattle.scenario_play.specs.Comebacks.{Holding}
 use Rattle.scenario_play.specs.Performing.{Performs}
 use Rattle.scenario_play.specs.Scenes.{Scene}
 use Rattle.scenario_play.specs.Texts.{answer_text}

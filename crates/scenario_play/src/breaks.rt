@@ -1,6 +1,8 @@
 // A scenario played once for each of its steps, with a break there.
-ghost use Rattle.std.specs.Prelude.{Some};
+ghost use Rattle.std.specs.Prelude.{◌≡◌, ◌≤◌, None, Some, IfOk};
 ghost use Rattle.scenario_play.specs.Breaks.{breaks_text};
+ghost use Rattle.scenario_play.specs.Courses.{PlaysIn};
+ghost use Rattle.scenario_play.specs.Inputs.{told_lines};
 
 use crate::files::Files;
 use crate::play::Course;
@@ -35,15 +37,20 @@ fn rehearse<F: Files>(
     scenario: &[u8],
     files: &F,
     break_after: Option<u64>,
-) -> Result<(u64, bool), Failure> {
+) -> Result<(u64, bool), Failure>
+    ensures { break_after ≡ None → IfOk result (λ r. PlaysIn (F.holds files.now) (told_lines scenario.now) r.0 None None) }
+{
     let mut unheard = io::sink();
-    let mut course = Course::new(heap, scenario, files, &mut unheard, break_after);
-    course.run()?;
-    Ok((course.steps(), course.is_kept()))
+    let mut course = Course::new(heap, scenario, break_after);
+    let steps = course.run(files, &mut unheard)?;
+    Ok((steps, course.is_kept()))
 }
 
 // Plays a scenario anew for each of its steps, breaks the link there, and goes on.
-pub fn play_breaks<F: Files>(heap: Global, scenario: &[u8], files: &F) -> Result<Breaks, Failure> {
+pub fn play_breaks<F: Files>(heap: Global, scenario: &[u8], files: &F) -> Result<Breaks, Failure>
+    ensures places { IfOk result (λ b. PlaysIn (F.holds files.now) (told_lines scenario.now) b.places None None) }
+    ensures lost { IfOk result (λ b. b.lost ≤ b.places) }
+{
     let (places, _) = rehearse(heap, scenario, files, None)?;
     let mut breaks = Breaks { places, lost: 0 };
     for step in 0..places {

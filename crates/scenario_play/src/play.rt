@@ -1,10 +1,12 @@
 // Playing a scenario, line by line.
-ghost use Rattle.std.specs.Prelude.{◌≡◌, ◌+◌, ◌&&◌, true, false, min, is_some, Ok, Some, vec_items, if◌then◌else◌, OnOk, IfOk, IfSome};
+ghost use Rattle.std.specs.Prelude.{◌≡◌, ◌&&◌, true, false, length, is_some, Ok, Some, vec_items, if◌then◌else◌, OnOk, IfOk, IfErr, IfSome};
 ghost use Rattle.std.specs.Io.KnownBytes.{Appends};
-ghost use Rattle.scenario_text.specs.Commands.{IsCommand};
+ghost use Rattle.memory.specs.Sizes.{rooms_in, seats_in};
+ghost use Rattle.sender.specs.Views.{rooms_of};
 ghost use Rattle.scenario_play.specs.Answers.{unmade};
 ghost use Rattle.scenario_play.specs.Comebacks.{Holding};
-ghost use Rattle.scenario_play.specs.Inputs.{Advances};
+ghost use Rattle.scenario_play.specs.Courses.{Plays, GoesOn, Ends, PlaysSecond, PlaysIn, PlaysAll};
+ghost use Rattle.scenario_play.specs.Inputs.{told_lines, Advances};
 ghost use Rattle.scenario_play.specs.Keeping.{all_kept};
 ghost use Rattle.scenario_play.specs.Playing.{answer_line, PlaysLine};
 
@@ -27,16 +29,12 @@ use std::io::{BufRead, Write};
 
 // A scenario while it is played, and where its link is to break.
 #[derive(Drop)]
-pub(crate) struct Course<'p, R: Drop, F, W> {
+pub(crate) struct Course<R: Drop> {
     heap: Global,
     lines: Lines<R>,
     // The peer's map of an attach's line.
     list: PeerList,
-    files: &'p F,
-    out: &'p mut W,
     break_after: Option<u64>,
-    // How many commands were carried out after the two first.
-    steps: u64,
     is_kept: bool,
 }
 
@@ -65,7 +63,9 @@ fn play_line<S: Outlet, F: Files, W: Write>(
     tell(word(&command), &answer, out)
 }
 
-fn memory_for(heap: Global, sizes: &LinkSizes) -> Result<LinkMemory, AllocError> {
+fn memory_for(heap: Global, sizes: &LinkSizes) -> Result<LinkMemory, AllocError>
+    ensures { IfOk result (λ m. (rooms_in m ≡ rooms_of sizes.now.table sizes.now.resume sizes.now.resend) × (seats_in m ≡ sizes.now.seats)) }
+{
     LinkMemory::with_rooms(heap, sizes.table, sizes.resume, sizes.resend, sizes.seats)
 }
 
@@ -75,71 +75,76 @@ fn refused(e: MakeError) -> Answer
     Answer::Refused(Refusal::Number(e.number()))
 }
 
-impl<'p, R: BufRead + Drop, F: Files, W: Write> Course<'p, R, F, W> {
-    pub fn new(
-        heap: Global,
-        input: R,
-        files: &'p F,
-        out: &'p mut W,
-        break_after: Option<u64>,
-    ) -> Course<'p, R, F, W>
-        ensures begun { (result.steps ≡ 0) × (result.is_kept ≡ true) }
+// Says that the link or its sink is refused: no other line is played.
+fn tell_refused<W: Write>(word: &str, e: MakeError, out: &mut W) -> Result<u64, Trouble>
+    ensures { IfOk result (λ steps. Ends word.now e steps (W.contents out.old) (W.contents out.new)) }
+{
+    tell(word, &refused(e), out)?;
+    Ok(0)
+}
+
+impl<R: BufRead + Drop> Course<R> {
+    pub fn new(heap: Global, input: R, break_after: Option<u64>) -> Course<R>
+        ensures kept { result.is_kept ≡ true }
         ensures break_after { result.break_after ≡ break_after }
         ensures input { result.lines.input.reader ≡ input }
-        ensures given { (result.files ≡ files.entry) × (result.out ≡ out.entry) }
     {
         Course {
             heap,
             lines: Lines::new(heap, input),
             list: PeerList::new(heap),
-            files,
-            out,
             break_after,
-            steps: 0,
             is_kept: true,
         }
     }
 
-    fn tell(&mut self, word: &str, answer: &Answer) -> Result<(), Trouble>
-        ensures { OnOk result (Appends (W.contents self.old.out.now) (W.contents self.new.out.now) (answer_line word.now answer.now)) }
+    // All lines, and how many there were after the two first: none where one of these is refused.
+    pub fn run<F: Files, W: Write>(&mut self, files: &F, out: &mut W) -> Result<u64, Failure>
+        ensures played { self.old.break_after ≡ None → IfOk result (λ steps. IfSome (R.remaining self.old.lines.input.reader) (λ xs. PlaysIn (F.holds files.now) (told_lines xs) steps (W.contents out.old) (W.contents out.new))) }
+        ensures line { IfErr result (λ failure. failure.line ≡ self.new.lines.number) }
     {
-        tell(word, answer, self.out)
+        match self.make_link(files, out) {
+            Ok(steps) => Ok(steps),
+            Err(trouble) => Err(Failure {
+                line: self.lines.number(),
+                trouble,
+            }),
+        }
     }
 
-    // The next line's command, if there is one.
-    fn next_command(&mut self) -> Result<Option<Command<'_>>, Trouble>
-        ensures { IfOk result (λ o. IfSome o IsCommand) }
+    // The first line makes the link.
+    fn make_link<F: Files, W: Write>(&mut self, files: &F, out: &mut W) -> Result<u64, Trouble>
+        ensures { self.old.break_after ≡ None → IfOk result (λ steps. IfSome (R.remaining self.old.lines.input.reader) (λ xs. PlaysIn (F.holds files.now) (told_lines xs) steps (W.contents out.old) (W.contents out.new))) }
     {
         if !self.lines.advance()? {
-            return Ok(None);
+            return Err(Trouble::NoLink);
         }
-        Ok(parse(self.lines.text()?, &mut self.list)?)
-    }
-
-    // All lines.
-    pub fn run(&mut self) -> Result<(), Failure> {
-        self.make_link().map_err(|trouble| Failure {
-            line: self.lines.number(),
-            trouble,
-        })
-    }
-
-    fn make_link(&mut self) -> Result<(), Trouble> {
-        let Some(Command::Link(sizes)) = self.next_command()? else {
+        let Some(Command::Link(sizes)) = parse(self.lines.text()?, &mut self.list)? else {
             return Err(Trouble::NoLink);
         };
         let mut memory = memory_for(self.heap, &sizes)?;
         match memory.link(sizes.settings, sizes.initial_delivery_count) {
             Ok(link) => {
-                self.tell("link", &Answer::Made)?;
-                self.make_sink(link)
+                tell("link", &Answer::Made, out)?;
+                self.make_sink(link, files, out)
             }
-            Err(e) => self.tell("link", &refused(e)),
+            Err(e) => tell_refused("link", e, out),
         }
     }
 
-    fn make_sink(&mut self, link: SenderLink<'_>) -> Result<(), Trouble> {
-        match self.next_command()? {
+    // The second line makes its sink.
+    fn make_sink<F: Files, W: Write>(
+        &mut self,
+        link: SenderLink<'_>,
+        files: &F,
+        out: &mut W,
+    ) -> Result<u64, Trouble>
+        ensures { self.old.break_after ≡ None → IfOk result (λ steps. IfSome (R.remaining self.old.lines.input.reader) (λ xs. PlaysSecond (F.holds files.now) link.entry (told_lines xs) steps (W.contents out.old) (W.contents out.new))) }
+    {
+        if !self.lines.advance()? {
+            return Err(Trouble::NoSink);
+        }
+        match parse(self.lines.text()?, &mut self.list)? {
             Some(
                 Command::Queue {
                     places,
@@ -147,13 +152,13 @@ impl<'p, R: BufRead + Drop, F: Files, W: Write> Course<'p, R, F, W> {
                     memory,
                 },
             ) => match make_queue(self.heap, places, widest, memory)? {
-                Ok(queue) => self.go_on_with("queue", link, queue),
-                Err(e) => self.tell("queue", &refused(e)),
+                Ok(queue) => self.go_on_with("queue", link, queue, files, out),
+                Err(e) => tell_refused("queue", e, out),
             },
             Some(Command::Spool { memory, widest }) => {
                 match make_spool(self.heap, memory, widest)? {
-                    Ok(spool) => self.go_on_with("spool", link, spool),
-                    Err(e) => self.tell("spool", &refused(e)),
+                    Ok(spool) => self.go_on_with("spool", link, spool, files, out),
+                    Err(e) => tell_refused("spool", e, out),
                 }
             }
             _ => Err(Trouble::NoSink),
@@ -161,53 +166,70 @@ impl<'p, R: BufRead + Drop, F: Files, W: Write> Course<'p, R, F, W> {
     }
 
     // Whatever comes of the lines, the tickets that are held at the end are collected.
-    fn go_on_with<S: Outlet>(
+    fn go_on_with<S: Outlet, F: Files, W: Write>(
         &mut self,
         word: &str,
         link: SenderLink<'_>,
         sink: S,
-    ) -> Result<(), Trouble> {
-        self.tell(word, &Answer::Made)?;
+        files: &F,
+        out: &mut W,
+    ) -> Result<u64, Trouble>
+        ensures { self.old.break_after ≡ None → IfOk result (λ steps. IfSome (R.remaining self.old.lines.input.reader) (λ xs. GoesOn S.Outlet.framewise (F.holds files.now) word.now link.entry (S.Sink.model sink) (told_lines xs) steps (W.contents out.old) (W.contents out.new))) }
+    {
+        tell(word, &Answer::Made, out)?;
         let mut player = Player::new(self.heap, link, sink)?;
-        let played = self.go_on(&mut player);
+        let played = self.go_on(&mut player, files, out);
         self.check(&player);
         let _link = player.finish();
         played
     }
 
     // The other lines.
-    fn go_on<S: Outlet>(&mut self, player: &mut Player<'_, S>) -> Result<(), Trouble> {
-        for _ in 0..u64::MAX {
-            if !self.step(player)? {
-                return Ok(());
+    fn go_on<S: Outlet, F: Files, W: Write>(
+        &mut self,
+        player: &mut Player<'_, S>,
+        files: &F,
+        out: &mut W,
+    ) -> Result<u64, Trouble>
+        ensures played { self.old.break_after ≡ None → OnOk result (IfSome (R.remaining self.old.lines.input.reader) (λ xs. Plays S.Outlet.framewise (F.holds files.now) (told_lines xs) player.old player.new (W.contents out.old) (W.contents out.new))) }
+        ensures counted { IfOk result (λ steps. IfSome (R.remaining self.old.lines.input.reader) (λ xs. steps ≡ length (told_lines xs))) }
+    {
+        for steps in 0..u64::MAX {
+            if !self.step(player, files, out)? {
+                return Ok(steps);
             }
-            self.break_here(player);
+            self.break_here(steps + 1, player);
         }
-        Ok(())
+        Err(Trouble::TooLong)
     }
 
     // The next line, if there is one: it stands in the memory then.
-    fn step<S: Outlet>(&mut self, player: &mut Player<'_, S>) -> Result<bool, Trouble>
-        ensures played { result ≡ Ok true → PlaysLine S.Outlet.framewise (F.holds self.old.files.now) (vec_items self.new.lines.line) player.old player.new (W.contents self.old.out.now) (W.contents self.new.out.now) }
+    fn step<S: Outlet, F: Files, W: Write>(
+        &mut self,
+        player: &mut Player<'_, S>,
+        files: &F,
+        out: &mut W,
+    ) -> Result<bool, Trouble>
+        ensures played { result ≡ Ok true → PlaysLine S.Outlet.framewise (F.holds files.now) (vec_items self.new.lines.line) player.old player.new (W.contents out.old) (W.contents out.new) }
         ensures next { IfOk result (λ more. Advances more (vec_items self.new.lines.line) (R.remaining self.old.lines.input.reader) (R.remaining self.new.lines.input.reader)) }
-        ensures over { result ≡ Ok false → (player.new ≡ player.old) × (self.new.out.now ≡ self.old.out.now) }
-        ensures counted { IfOk result (λ more. self.new.steps ≡ (if more then min (self.old.steps + 1) 18446744073709551615 else self.old.steps)) }
+        ensures over { result ≡ Ok false → (player.new ≡ player.old) × (out.new ≡ out.old) }
+        ensures break_after { self.new.break_after ≡ self.old.break_after }
     {
         if !self.lines.advance()? {
             return Ok(false);
         }
         let line = self.lines.text()?;
-        play_line(line, player, &mut self.list, self.files, self.out)?;
-        self.steps = self.steps.saturating_add(1);
+        play_line(line, player, &mut self.list, files, out)?;
         Ok(true)
     }
 
     // The link breaks after the step that was named.
-    fn break_here<S: Outlet>(&mut self, player: &mut Player<'_, S>)
+    fn break_here<S: Outlet>(&mut self, steps: u64, player: &mut Player<'_, S>)
         ensures holding { Holding player.old player.new }
-        ensures elsewhere { (self.old.break_after ≡ Some self.old.steps → ⊥) → player.new ≡ player.old }
+        ensures elsewhere { (self.old.break_after ≡ Some steps → ⊥) → player.new ≡ player.old }
+        ensures rest { (self.new.lines ≡ self.old.lines) × (self.new.break_after ≡ self.old.break_after) }
     {
-        if self.break_after == Some(self.steps) {
+        if self.break_after == Some(steps) {
             player.break_off();
             self.check(player);
         }
@@ -215,17 +237,12 @@ impl<'p, R: BufRead + Drop, F: Files, W: Write> Course<'p, R, F, W> {
 
     // Where the link is to break, each ticket has to be told or kept.
     fn check<S: Outlet>(&mut self, player: &Player<'_, S>)
-        ensures { self.new.is_kept ≡ (if is_some self.old.break_after then self.old.is_kept && all_kept player.now else self.old.is_kept) }
+        ensures kept { self.new.is_kept ≡ (if is_some self.old.break_after then self.old.is_kept && all_kept player.now else self.old.is_kept) }
+        ensures rest { (self.new.lines ≡ self.old.lines) × (self.new.break_after ≡ self.old.break_after) }
     {
         if self.break_after.is_some() {
             self.is_kept &= player.keeps_every_ticket();
         }
-    }
-
-    pub fn steps(&self) -> u64
-        ensures { result ≡ self.now.steps }
-    {
-        self.steps
     }
 
     // No ticket was lost, wherever it was looked at: after the break, and at the end.
@@ -242,6 +259,9 @@ pub fn play<R: BufRead + Drop, F: Files, W: Write>(
     input: R,
     files: &F,
     out: &mut W,
-) -> Result<(), Failure> {
-    Course::new(heap, input, files, out, None).run()
+) -> Result<(), Failure>
+    ensures { OnOk result (IfSome (R.remaining input) (λ xs. PlaysAll (F.holds files.now) (told_lines xs) (W.contents out.old) (W.contents out.new))) }
+{
+    Course::new(heap, input, None).run(files, out)?;
+    Ok(())
 }
