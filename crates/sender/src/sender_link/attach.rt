@@ -87,7 +87,9 @@ fn resume_slots(
     }
 }
 
-// So do they by what the peer's pairs say, through a table of the pairs.
+// So do they by what the peer's pairs say, through a table of the pairs. It is never inlined: within `attach`, which has a
+// short way besides, LLVM's probe of so large a frame writes over the register that holds an argument.
+#[inline(never)]
 fn resume_by_table(
     resume: &mut Worklist<'_, ResumingDelivery>,
     seats: &mut Seats<'_>,
