@@ -1,5 +1,7 @@
 //! The stand-in of beside/ for the crate `fe2o3-amqp-types`, with sizes in the place of bytes.
 
+#[path = "../../../beside/original/stand_ins/fe2o3-amqp-types/src/conditions.rs"]
+mod conditions;
 #[path = "../../../beside/original/stand_ins/fe2o3-amqp-types/src/definitions.rs"]
 pub mod definitions;
 #[path = "../../../beside/original/stand_ins/fe2o3-amqp-types/src/messaging.rs"]

@@ -2,25 +2,10 @@
 
 use serde_amqp::{Encode, Size};
 
+use crate::conditions::CONDITIONS;
 use crate::definitions::{DeliveryTag, Error};
 use crate::messaging::DeliveryState;
 use crate::performatives::{Attach, Disposition, Transfer};
-
-const CONDITIONS: [&str; 13] = [
-    "internal-error",
-    "not-found",
-    "unauthorized-access",
-    "decode-error",
-    "resource-limit-exceeded",
-    "not-allowed",
-    "invalid-field",
-    "not-implemented",
-    "resource-locked",
-    "precondition-failed",
-    "resource-deleted",
-    "illegal-state",
-    "frame-size-too-small",
-];
 
 fn number(n: u64, wide: usize) -> usize {
     match n {

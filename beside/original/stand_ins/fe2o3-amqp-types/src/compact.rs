@@ -2,6 +2,7 @@
 
 use serde_amqp::Encode;
 
+use crate::conditions::CONDITIONS;
 use crate::definitions::{DeliveryTag, Error, Role};
 use crate::messaging::DeliveryState;
 use crate::performatives::{Attach, Disposition, Transfer};
@@ -9,22 +10,6 @@ use crate::performatives::{Attach, Disposition, Transfer};
 const NULL: u8 = 0x40;
 const TRUE: u8 = 0x41;
 const FALSE: u8 = 0x42;
-
-const CONDITIONS: [&str; 13] = [
-    "internal-error",
-    "not-found",
-    "unauthorized-access",
-    "decode-error",
-    "resource-limit-exceeded",
-    "not-allowed",
-    "invalid-field",
-    "not-implemented",
-    "resource-locked",
-    "precondition-failed",
-    "resource-deleted",
-    "illegal-state",
-    "frame-size-too-small",
-];
 
 fn uint(n: u32) -> Vec<u8> {
     match u8::try_from(n) {
