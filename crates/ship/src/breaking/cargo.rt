@@ -1,7 +1,8 @@
 // The messages of all files, end to end in one pool.
 ghost use Rattle.std.specs.Prelude.{◌≡◌, true, false, None, [], ◌∷◌, ◌++◌, length, Decides, OnOk, OnErr};
+ghost use Rattle.std.specs.List.{list_any};
 ghost use Rattle.link.specs.Sending.{message};
-ghost use Rattle.ship.specs.Cargoes.{learned, loaded};
+ghost use Rattle.ship.specs.Cargoes.{is_own, awaits, judged, learned, loaded};
 ghost use Rattle.shipping.specs.Sections.{data_section};
 ghost use Rattle.shipping.specs.Texts.{is_accepted};
 ghost use Rattle.unsettled.specs.Messages.{outside};
@@ -52,12 +53,20 @@ impl Consignment {
 
     // Whether these bytes are its message.
     pub fn is_message(&self, pool: &[u8], bytes: &[u8]) -> bool
-        ensures { Decides result ((outside self.now.place (length pool.now) ≡ false) × (bytes.now ≡ message pool.now self.now.place)) }
+        ensures value { result ≡ is_own pool.now bytes.now self.now }
+        ensures own { Decides result ((outside self.now.place (length pool.now) ≡ false) × (bytes.now ≡ message pool.now self.now.place)) }
     {
         if self.place.is_outside(pool) {
             return false;
         }
         bytes == &pool[self.place.start..self.place.start + self.place.len]
+    }
+
+    // It is not through, and these bytes are its message.
+    fn awaits(&self, pool: &[u8], bytes: &[u8]) -> bool
+        ensures { result ≡ awaits pool.now bytes.now self.now }
+    {
+        self.outcome.is_none() && self.is_message(pool, bytes)
     }
 
     // What its ticket tells once the archive has answered for a delivery. No file is accepted with bytes that are not its own.
@@ -109,10 +118,19 @@ impl Cargo {
         Ok(())
     }
 
-    // Accepted where they are the message of a file that is not through, and else rejected.
-    pub fn judge(&self, bytes: &[u8]) -> DeliveryState {
+    // Some file that is not through has these bytes as its message.
+    fn is_awaited(&self, bytes: &[u8]) -> bool
+        ensures { result ≡ list_any (awaits self.now.pool.items bytes.now) self.now.files.items }
+    {
         let pool = self.pool.as_slice();
-        if self.files.iter().any(|file| file.outcome.is_none() && file.is_message(pool, bytes)) {
+        self.files.iter().any(|file| file.awaits(pool, bytes))
+    }
+
+    // Accepted where they are the message of a file that is not through, and else rejected.
+    pub fn judge(&self, bytes: &[u8]) -> DeliveryState
+        ensures { result ≡ judged self.now.pool.items self.now.files.items bytes.now }
+    {
+        if self.is_awaited(bytes) {
             DeliveryState::Accepted
         } else {
             DeliveryState::Rejected(Some(AmqpError::DecodeError))
