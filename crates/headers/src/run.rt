@@ -34,12 +34,17 @@ impl fmt::Display for Tally {
     }
 }
 
-pub fn run<R: BufRead + Drop>(rt: &HostRuntime, input: R) -> Result<()> {
+pub fn run<R: BufRead + Drop>(rt: &HostRuntime, mut input: R) -> Result<()> {
     let mut out = BufWriter::new(rt.alloc(), rt.stdout())?;
+    // One vector holds every line in turn: `split` would allocate one for each.
+    let mut line = Vec::new(rt.alloc());
     let mut bytes = Vec::new(rt.alloc());
     let mut tally = Tally::default();
-    for (line, n) in input.split(rt.alloc(), b'\n').zip(1..) {
-        let line = line?;
+    for n in 1..u64::MAX {
+        line.clear();
+        if input.read_until(b'\n', &mut line)? == 0 {
+            break;
+        }
         let text = line.trim_ascii();
         if matches!(text, [] | [b'#', ..]) {
             continue;
