@@ -149,7 +149,7 @@ tasked v is t = holding v (record { table = joined t.joins v.held.table; resume 
 abbrev pub working : View → Bool
 working v = may_work v.state && handled v
 
--- in no run is it (`never_in_the_way` in crates/runs/specs/Safe.antt)
+-- in no run of a link that can be made is it (`never_in_the_way` in crates/runs/specs/Safe.antt)
 abbrev pub resend_full : View → Bool
 resend_full v = nat_le v.rooms.resend (length v.held.resend)
 

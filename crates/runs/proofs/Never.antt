@@ -1,4 +1,4 @@
--- Deliveries never stand in the way of one another.
+-- Deliveries never stand in the way of one another, where the resend list is no shorter than the table.
 use Rattle.std.proofs.Common.{◌≡◌, ◌+◌, ◌≤◌, Bool, true, false, cond, List, [], ◌∷◌, ◌++◌, length, Some, None, Option, refl, ap, arith, length-append}
 use Rattle.std.proofs.lemmas.Bool.Decides.{nat_tests}
 use Rattle.std.specs.List.{AllByRecursion}
@@ -93,22 +93,22 @@ item_joins v e es q h = (
   not_there v e.tag h (omega (arith, ap (tally e.tag) q, own_tag e.tag)),
 )
 
--- one that waits in the resume list has room in the resend list, which is no shorter than the table
-resend_room : (v : View) (e : Entry) (es : List Entry) → listed v.held.resume ≡ e ∷ es → Sound v → resend_full v ≡ false
-resend_room v e es q h = let r = h.room in let m = h.resends in let n = ap length q in grind (arith, nat_tests)
+-- one that waits in the resume list has room in the resend list: only this asks for one no shorter than the table
+resend_room : (v : View) (e : Entry) (es : List Entry) → listed v.held.resume ≡ e ∷ es → Sound v → v.rooms.table ≤ v.rooms.resend → resend_full v ≡ false
+resend_room v e es q h m = let r = h.room in let n = ap length q in grind (arith, nat_tests)
 
-item_clear : (v : View) (c : Carrier) (is : List ResumingDelivery) → v.held.resume ≡ is → Sound v → AllByRecursion Clear (item_rows v c is)
-item_clear v c [] q h = tt
-item_clear v c (item.Resend e ∷ is) q h = (unmet send.TableFull _ (resend_room v e (listed is) (ap listed q) h), tt)
-item_clear v c (item.Resume e p ∷ is) q h = (another send.OutsidePool _ (λ e. cc, λ e. cc), task_clear v c (resume_task v c.pool e p) (item_joins v e (listed is) (ap listed q) h))
-item_clear v c (item.Abort e ∷ is) q h = task_clear v c (abort_task v e) tt
-item_clear v c (item.RestateOutcome e ∷ is) q h = (another send.OutsidePool _ (λ e. cc, λ e. cc), task_clear v c (restate_task v e) (item_joins v e (listed is) (ap listed q) h))
-item_clear v c (item.Settling t f o ∷ is) q h = task_clear v c (settling_task v t f o) tt
+item_clear : (v : View) (c : Carrier) (is : List ResumingDelivery) → v.held.resume ≡ is → Sound v → v.rooms.table ≤ v.rooms.resend → AllByRecursion Clear (item_rows v c is)
+item_clear v c [] q h m = tt
+item_clear v c (item.Resend e ∷ is) q h m = (unmet send.TableFull _ (resend_room v e (listed is) (ap listed q) h m), tt)
+item_clear v c (item.Resume e p ∷ is) q h m = (another send.OutsidePool _ (λ e. cc, λ e. cc), task_clear v c (resume_task v c.pool e p) (item_joins v e (listed is) (ap listed q) h))
+item_clear v c (item.Abort e ∷ is) q h m = task_clear v c (abort_task v e) tt
+item_clear v c (item.RestateOutcome e ∷ is) q h m = (another send.OutsidePool _ (λ e. cc, λ e. cc), task_clear v c (restate_task v e) (item_joins v e (listed is) (ap listed q) h))
+item_clear v c (item.Settling t f o ∷ is) q h m = task_clear v c (settling_task v t f o) tt
 
-work_clear : (v : View) (c : Carrier) → Sound v → Clear (work_refusal v c)
-work_clear v c h =
+work_clear : (v : View) (c : Carrier) → Sound v → v.rooms.table ≤ v.rooms.resend → Clear (work_refusal v c)
+work_clear v c h m =
     first_neither (row (not (working v)) (send.LinkState IllegalState) ∷ item_rows v c v.held.resume)
-    (another (send.LinkState IllegalState) _ (λ e. cc, λ e. cc), item_clear v c v.held.resume refl h)
+    (another (send.LinkState IllegalState) _ (λ e. cc, λ e. cc), item_clear v c v.held.resume refl h m)
 
 again_joins : (v : View) (b : Bool) (os : List (Option SendError)) → table_full v ≡ false → Sound v → AllByRecursion Clear os → AllByRecursion Clear (cond b [] (join_rows (next_tag v) v) ++ os)
 again_joins v true os f h k = k
@@ -183,5 +183,5 @@ detach_clear v closed h =
     ∷ cond closed [] (row (overfull v) detach.TableFull ∷ row (clash (put_back v.held) v.held.table) detach.TagInTable ∷ []))
     (another detach.IllegalState _ (λ e. cc, λ e. cc), detach_rows_clear v closed h)
 
-pub never_in_the_way : (v : View) → Sound v → NeverInTheWay v
-never_in_the_way v h = record { send = λ c m. (send_new v c m h).0; work = λ c. work_clear v c h; resend = λ c. resend_clear v c h; detach = λ closed. detach_clear v closed h }
+pub never_in_the_way : (v : View) → Sound v → v.rooms.table ≤ v.rooms.resend → NeverInTheWay v
+never_in_the_way v h m = record { send = λ c s. (send_new v c s h).0; work = λ c. work_clear v c h m; resend = λ c. resend_clear v c h; detach = λ closed. detach_clear v closed h }

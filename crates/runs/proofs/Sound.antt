@@ -39,9 +39,8 @@ use Rattle.runs.proofs.Held.{entries, tags, Fewer, same_held, attached_fewer, re
 use Rattle.runs.proofs.Tags.{tags_apart}
 
 pub record Sound (v : View) : Type 0 where
-  -- all that is held has room in the table, and so in the resend list
+  -- all that is held has room in the table
   pub room : entries v.held ≤ v.rooms.table
-  pub resends : v.rooms.table ≤ v.rooms.resend
   -- no tag is held twice
   pub single : (t : DeliveryTag) → tags t v.held ≤ 1
   -- no tag that is still to come is held
@@ -63,7 +62,6 @@ falls v u h f r s =
     record {
       keeps = record {
         room = omega (arith, h.room, f.entries);
-        resends = h.resends;
         single = λ t. omega (arith, h.single t, f.tags t);
         unused = λ n k b. omega (arith, f.tags (tag_of n), h.unused n (omega arith) b);
         span = s;
@@ -89,7 +87,6 @@ gains v u h r w c s =
     record {
       keeps = record {
         room = r;
-        resends = h.resends;
         single = λ t. go t (same_tag (next_tag v) t) refl (w t);
         unused = λ n k b.
             let z : one (same_tag (next_tag v) (tag_of n)) ≡ 0 = ap one (tags_apart v.flow.delivery_count n (omega arith) b) in
@@ -241,5 +238,5 @@ steady v (Look n) h = stays v h
 steady v (Collect n) h = still v (turn v (Collect n)) h refl refl
 
 pub sound : (r : Run) → Sound (after r)
-sound (made m) = record { room = omega arith; resends = m.resends; single = λ t. omega arith; unused = λ n a b. refl; span = omega (arith, m.counted) }
+sound (made m) = record { room = omega arith; single = λ t. omega arith; unused = λ n a b. refl; span = omega (arith, m.counted) }
 sound (r ▹ c) = (steady (after r) c (sound r)).keeps

@@ -7,20 +7,24 @@ use Rattle.link.specs.Calls.{Call, Open, Attach, Flow, Send, Disposition, Dispos
 use Rattle.link.specs.Sending.{Sent, ticket, settled, send_answer}
 use Rattle.link.specs.Views.{View, Rooms, fresh}
 
--- what a link is made with: its count has 32 bits, and its resend list is no shorter than its table
+-- what a link is made with; its count has 32 bits
 pub record Making : Type 0 where
   pub settings : Settings
   pub initial : ℕ
   pub rooms : Rooms
   pub seats : ℕ
   pub counted : initial ≤ 4294967295
-  pub resends : rooms.table ≤ rooms.resend
 
 pub data Run : Type 0 where
   made : Making → Run
   ◌▹◌ : Run → Call → Run
 
 infixl 20 ◌▹◌
+-- what the link of a run was made with
+abbrev pub making : Run → Making
+making (made m) = m
+making (r ▹ c) = making r
+
 -- the link that a run leaves
 abbrev pub after : Run → View
 after (made m) = fresh m.settings m.initial m.rooms m.seats

@@ -1,5 +1,5 @@
 -- What holds of every run of a link.
-use Rattle.std.specs.Prelude.{◌≡◌, ℕ, Bool, List, Some, Ok, ◌≢◌}
+use Rattle.std.specs.Prelude.{◌≡◌, ℕ, ◌≤◌, Bool, List, Some, Ok, ◌≢◌}
 use Rattle.amqp.specs.declared.error.ApplyRemoteDetachError.TheVariants as detach
 use Rattle.amqp.specs.declared.error.SendError.TheVariants as fault
 use Rattle.link.specs.declared.delivery.Outcome.{Outcome}
@@ -13,7 +13,7 @@ use Rattle.link.specs.Views.{View}
 use Rattle.link.specs.Working.{work_refusal}
 use Rattle.runs.specs.Frames.{PutsRight}
 use Rattle.runs.specs.Lives.{over, life, AsLived, born, progress}
-use Rattle.runs.specs.Runs.{Run, made, Making, ◌▹◌, after, ◌then◌, Leads, given, collected}
+use Rattle.runs.specs.Runs.{Run, made, Making, ◌▹◌, making, after, ◌then◌, Leads, given, collected}
 
 -- deliveries never stand in the way of one another: 13 stops no send, and neither 11 nor 13 stops work, a resend or a detach
 pub record NeverInTheWay (v : View) : Type 0 where
@@ -30,7 +30,10 @@ pub record Safe (r : Run) (v : View) : Type 0 where
   pub no_number_given_twice : (n : ℕ) → given n r ≡ born (life r n)
   -- look and collect answer pending before the call that ends the delivery, and then its outcome
   pub ticket_tells_the_outcome : (n : ℕ) → given n r ≡ 1 → collected n r ≡ 0 → looked v n ≡ Ok (progress (life r n))
-  pub never_in_the_way : NeverInTheWay v
+  -- the link has the rooms that it was made with
+  pub rooms_kept : v.rooms ≡ (making r).rooms
+  -- where its resend list is no shorter than its table, as making sees to (`Begun`)
+  pub never_in_the_way : v.rooms.table ≤ v.rooms.resend → NeverInTheWay v
   -- whatever calls follow
   pub ended_for_good : (n : ℕ) (o : Outcome) → life r n ≡ over o → (cs : List Call) → life (r then cs) n ≡ over o
 
@@ -42,6 +45,6 @@ EveryRunSafe = (r : Run) → Safe r (after r) × ((c : Call) → PutsRight (afte
 abbrev pub SafeAfter : View → Call → View → Type 0
 SafeAfter v c w = (r : Run) → Leads r v → Leads (r ▹ c) w × Safe (r ▹ c) w × PutsRight v c (put_by v c)
 
--- on the contract of making: the link is one that a run begins with
+-- on the contract of making: the link is one that a run begins with, and its resend list is no shorter than its table
 abbrev pub Begun : View → Type 0
-Begun v = (m : Making) × Leads (made m) v × Safe (made m) v
+Begun v = (m : Making) × Leads (made m) v × Safe (made m) v × (v.rooms.table ≤ v.rooms.resend)

@@ -7,5 +7,5 @@ pub returns-clause-no_delivery_lost_or_ended_twice : goal.returns-clause-no_deli
 returns-clause-no_delivery_lost_or_ended_twice c =
     let a = c.args in
     let rooms = rooms_of (length a.table.now) (length a.resume.now) (length a.resend.now) in
-    begun (record { settings = a.settings; initial = a.initial_delivery_count; rooms = rooms; seats = length a.seats.now; counted = omega arith; resends = omega arith }) _
-    (search rules)
+    begun (record { settings = a.settings; initial = a.initial_delivery_count; rooms = rooms; seats = length a.seats.now; counted = omega arith }) _
+    (search rules) (omega arith)
