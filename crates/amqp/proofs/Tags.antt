@@ -1,6 +1,9 @@
 -- A tag, and the zeros past its bytes.
-use Rattle.std.proofs.Common.{◌≡◌, ℕ, ◌+◌, ◌-◌, ◌≤◌, min, List, ◌++◌, length, take, drop, replicate, sym, refl, ap, ◌∙◌, ap₂, arith}
+use Rattle.std.proofs.Common.{◌≡◌, ℕ, ◌+◌, ◌-◌, ◌≤◌, ◌==◌, ◌&&◌, true, min, List, ◌++◌, length, take, drop, replicate, Decides, bytes_eq, sym, refl, ap, ◌∙◌, ap₂, arith}
 use Rattle.std.proofs.Props.{props}
+use Rattle.std.proofs.lemmas.Bool.{and_parts, and_from}
+use Rattle.std.proofs.lemmas.Bool.Decides.{Decides-eqb}
+use Rattle.std.proofs.lemmas.Slice.Eq.{bytes_eq-Decides}
 use Rattle.std.proofs.lemmas.List.{take-append-drop, take_at, take_all, drop_at, length-append, length-take, length-replicate, replicate-append-replicate, length-take-le}
 use mathlib.Core.HLevel.{is_prop→PathP}
 use Rattle.amqp.specs.declared.tag.DeliveryTag.{DeliveryTag}
@@ -21,6 +24,19 @@ tag_ext x y l b =
       within = is_prop→PathP (λ j. Within (l j) (b j)) (λ j. Prim.hlevel props) x.within y.within i;
       clear = is_prop→PathP (λ j. Clear (l j) (b j)) (λ j. Prim.hlevel props) x.clear y.clear i;
     }
+
+-- tags are compared by their lengths and bytes
+equal_itself : (x : DeliveryTag) → (x.len == x.len && bytes_eq x.bytes x.bytes) ≡ true
+equal_itself x = and_from _ _ ((Decides-eqb x.len x.len).1 refl) ((bytes_eq-Decides x.bytes x.bytes).1 refl)
+
+equal_means : (x y : DeliveryTag) → (x.len == y.len && bytes_eq x.bytes y.bytes) ≡ true → x ≡ y
+equal_means x y h =
+    let p = and_parts (x.len == y.len) _ h in
+    tag_ext x y ((Decides-eqb x.len y.len).0 p.0) ((bytes_eq-Decides x.bytes y.bytes).0 p.1)
+
+-- which decides whether they are one
+pub equal_decides : (x y : DeliveryTag) → Decides (x.len == y.len && bytes_eq x.bytes y.bytes) (x ≡ y)
+equal_decides x y = (equal_means x y, λ e. ap (λ t. x.len == t.len && bytes_eq x.bytes t.bytes) (sym e) ∙ equal_itself x)
 
 -- a length that is at most 32 counts the bytes
 own : (t : DeliveryTag) → tag_bytes t ≡ take t.len t.bytes

@@ -1,5 +1,9 @@
 // A delivery tag: 0 to 32 bytes (Part 2, 2.8.7).
-ghost use Rattle.std.specs.Prelude.{◌≡◌, ◌-◌, ◌+◌, ◌≤◌, length, drop, replicate};
+ghost use Rattle.std.specs.Prelude.{◌≡◌, ◌-◌, ◌+◌, ◌≤◌, length, drop, replicate, Decides};
+
+mod same;
+
+pub use same::same_bytes_same_tag;
 
 // Zeros stand past its bytes, so that tags of the same bytes are equal, whoever made them. It is copied by value and takes no heap, as a link
 // does, and a vector of fixed capacity is not `Copy`: so the length stands beside the bytes.
@@ -65,6 +69,14 @@ impl DeliveryTag {
         ensures { result.now ≡ tag_bytes self.now }
     {
         &self.bytes[..self.len()]
+    }
+
+    // `==`, whose own promise speaks of lengths and bytes, by a name that promises it of the tags.
+    #[tactic(auto, using(crate::proofs::Tags::equal_decides))]
+    pub fn same(&self, other: &DeliveryTag) -> bool
+        ensures { Decides result (self.now ≡ other.now) }
+    {
+        self == other
     }
 
     // Two tags with the same bytes are one tag; the tag of bytes has these bytes, and a count's tag its four.

@@ -142,7 +142,7 @@ slot_next keys n xs y h lt =
     keyed_next key_of keys n (set xs n y) y (key_of y) (omega (arith, lt, length-set xs n y)) (sym (ap key_of (get_or-set_at xs n n y y (λ i. n) lt)))
     (record { each = λ k x a r. h.each k x a r ∙ ap key_of (sym (get_or-set_other xs n k y x (omega arith))) })
 
--- the slot at i is written over by the last, whose place loses its key
-pub slot_swapped : {M : Type 0} (keys : List (Option ℕ)) (n i : ℕ) (xs : List (Slot M)) (y : Slot M) → Keyed key_of keys n xs → i < length xs → Keyed key_of (set (set keys (n - 1) None) i (key_of y)) (n - 1) (set xs i y)
-slot_swapped keys n i xs y h lt =
-    keyed_set key_of (set keys (n - 1) None) (n - 1) xs i y lt (keyed_past key_of keys (n - 1) (n - 1) xs (omega arith) (keyed_fewer key_of keys n (n - 1) xs (omega arith) h))
+-- the last slot's place loses its key, and the slot at i is written over
+pub slot_swapped : {M : Type 0} (keys gone under : List (Option ℕ)) (n i : ℕ) (xs ys : List (Slot M)) (y : Slot M) → Keyed key_of keys n xs → i < length xs → ys ≡ set xs i y → gone ≡ set keys (n - 1) None → under ≡ set gone i (key_of y) → Keyed key_of under (n - 1) ys
+slot_swapped keys gone under n i xs ys y h lt written e u =
+    rw (written, u, e) (keyed_set key_of (set keys (n - 1) None) (n - 1) xs i y lt (keyed_past key_of keys (n - 1) (n - 1) xs (omega arith) (keyed_fewer key_of keys n (n - 1) xs (omega arith) h)))

@@ -1,5 +1,6 @@
 // A table of unsettled deliveries by their tags, in lent memory (Part 2, 2.6.13).
 ghost use Rattle.std.specs.Prelude.{◌≡◌, ◌<◌, ◌≤◌, [], length, take, is_some, IfSome, if◌then◌else◌, Ok, Err, slice_set};
+ghost use Rattle.std.specs.List.{slice_get};
 ghost use Rattle.unsettled.specs.Indexes.{keys_of};
 ghost use Rattle.unsettled.specs.Keyed.{Keyed, Keyed-prop, key_of};
 
@@ -68,6 +69,12 @@ impl<'a, M: Copy> UnsettledMap<'a, M> {
         ensures { result ≡ full self.now }
     {
         self.count() >= self.capacity()
+    }
+
+    pub fn at(&self, i: usize) -> Option<Slot<M>>
+        ensures { result ≡ slice_get (held self.now) i }
+    {
+        self.front().get(i).copied()
     }
 
     #[tactic(auto, unfolding(crate::specs::Tables::same_tag))]

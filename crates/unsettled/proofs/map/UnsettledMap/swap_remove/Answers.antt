@@ -1,4 +1,4 @@
-use Rattle.std.proofs.Common.{◌-◌, get_or, arith}
+use Rattle.std.proofs.Common.{◌-◌, arith}
 use Rattle.std.proofs.lemmas.List.{length-take-le}
 use Rattle.unsettled.specs.Indexes.{keys_of}
 use Rattle.unsettled.specs.Keyed.{key_of}
@@ -15,5 +15,4 @@ invariant_of-self-clause-keyed g c =
 pub invariant_of-self-2-clause-keyed : goal.invariant_of-self-2-clause-keyed
 invariant_of-self-2-clause-keyed g c =
     let m = c.args.self.now in
-    rw (c.write.ensures.slots, c.write.ensures.keys, c.remove.ensures) (slot_swapped (keys_of m.index) m.len c.in_ok-i.i m.slots.now (get_or m.slots.now (m.len - 1) c.index-self-self.result) m.keyed
-    (omega (arith, c.in_ok-i.ensures.within, length-take-le m.len m.slots.now m.fits)))
+    slot_swapped (keys_of m.index) _ _ m.len c.in_ok-i.i m.slots.now _ _ m.keyed (omega (arith, c.in_ok-i.ensures.within, length-take-le m.len m.slots.now m.fits)) c.write.ensures.slots c.remove.ensures c.write.ensures.keys
