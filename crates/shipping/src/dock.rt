@@ -14,6 +14,8 @@ pub struct Dock<'a, S: Outbox> {
     heap: Global,
     link: SenderLink<'a>,
     sink: S,
+    // Payloads are read out to it.
+    out: Vec<u8>,
     // What the sink keeps of the frames that were read out.
     log: Vec<u8>,
     archive: Archive,

@@ -22,10 +22,11 @@ pub trait Outbox: Sink + Drop {
     fn with_places(heap: Global, places: usize, widest: usize) -> Result<Self, OutOfMemory>
         ensures { IfOk result (λ s. Self.Sink.model s ≡ empty places widest) };
 
-    // All that waits goes to the archive: how many frames there were.
+    // All that waits goes to the archive, by way of `out`, which is to be as wide as the payloads: how many frames there were.
     fn unload(
         &mut self,
         heap: Global,
+        out: &mut [u8],
         log: &mut Vec<u8>,
         archive: &mut Archive,
     ) -> Result<usize, OutOfMemory>
@@ -44,18 +45,18 @@ impl Outbox for Queue {
 
     fn unload(
         &mut self,
-        heap: Global,
+        _heap: Global,
+        out: &mut [u8],
         _log: &mut Vec<u8>,
         archive: &mut Archive,
     ) -> Result<usize, OutOfMemory> {
-        let mut out = vec![in heap; 0u8; self.widest()]?;
         let before = self.vacancy();
-        unload(self, &mut out, archive)?;
+        unload(self, out, archive)?;
         Ok(self.vacancy().saturating_sub(before))
     }
 }
 
-// The log keeps every record.
+// The log keeps every record. All records are read out at once, and no payload by itself.
 impl Outbox for Spool {
     ghost logged = { records };
 
@@ -68,6 +69,7 @@ impl Outbox for Spool {
     fn unload(
         &mut self,
         heap: Global,
+        _payload: &mut [u8],
         log: &mut Vec<u8>,
         archive: &mut Archive,
     ) -> Result<usize, OutOfMemory> {

@@ -39,6 +39,11 @@ pub fn empty_queue(heap: Global, places: usize, widest: usize) -> Result<Queue, 
     Queue::new(places, bytes, widest).map_err(|_| OutOfMemory)
 }
 
+// Memory to read payloads to.
+fn reader(heap: Global, widest: usize) -> Result<Vec<u8>, OutOfMemory> {
+    Ok(vec![in heap; 0u8; widest]?)
+}
+
 // How a link goes that sends unsettled, in frames of this size: the receiver settles first, and no message is too long.
 pub fn settings_for(max_frame_size: usize) -> Settings
     ensures { result ≡ settings_for max_frame_size }
@@ -103,6 +108,7 @@ impl<'a, S: Outbox> Dock<'a, S> {
             heap,
             link: attached(memory, frame)?,
             sink: S::with_places(heap, PLACES, widest)?,
+            out: reader(heap, widest)?,
             log: Vec::new(heap),
             archive: Archive::new(heap),
             credit,

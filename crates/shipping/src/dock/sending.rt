@@ -51,7 +51,7 @@ impl<'a, S: Outbox> Dock<'a, S> {
         ensures credit { self.new.credit ≡ self.old.credit }
     {
         self.sink
-            .unload(self.heap, &mut self.log, &mut self.archive)
+            .unload(self.heap, &mut self.out, &mut self.log, &mut self.archive)
     }
 
     // Reads the sink out, or makes it larger where nothing waits in it.
