@@ -2,7 +2,8 @@
 use Rattle.std.proofs.Common.{◌≡◌, ℕ, zero, suc, ◌+◌, ◌-◌, ◌<◌, ◌≤◌, Bool, true, false, cond, ◌||◌, not, ltb, leb, List, [], ◌∷◌, ◌++◌, length, get_or, take, set, is_some, Some, None, Option, sym, ap, ◌∙◌, arith}
 use Rattle.std.specs.Option.{option_map, unwrap_or}
 use lib.Seq.{take-set-lt}
-use Rattle.std.proofs.lemmas.List.{take-take, take_more_set, length-take-le, get_or-take, get_or_default}
+use Rattle.std.proofs.Math.Seq.{take-nil}
+use Rattle.std.proofs.lemmas.List.{take-take, take-set-le, take_more_set, length-take-le, get_or-take, get_or_default}
 use Rattle.std.proofs.lemmas.Bool.Decides.{nat_tests}
 use Rattle.amqp.specs.declared.tag.DeliveryTag.{DeliveryTag}
 use Rattle.unsettled.specs.declared.slot.Slot.{Slot}
@@ -80,3 +81,8 @@ swap_last t s len i d le e =
     let l = length-take-le len s le in
     let k = (first_at (has_tag t) (take len s) i e).below in
     swap_front s len i d (omega arith) le ∙ ap (λ o. unwrap_or (option_map (λ j. swap_out j (take len s)) o) (take len s)) e
+
+-- or is itself that tag's
+pub last_out : {M : Type 0} (t : DeliveryTag) (s : List (Slot M)) (len i : ℕ) → len ≤ length s → Some i ≡ place t (take len s) → len - 1 ≤ i → take (len - 1) s ≡ swap_removed t (take len s)
+last_out t [] len i le e past = take-nil (len - 1) ∙ sym (ap (swap_removed t) (take-nil len))
+last_out t (x ∷ xs) len i le e past = sym (take-set-le (len - 1) (x ∷ xs) i (get_or (x ∷ xs) (len - 1) x) past) ∙ swap_last t (x ∷ xs) len i x le e

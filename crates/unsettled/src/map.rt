@@ -8,6 +8,9 @@ use crate::index::{Index, PLACES, key_of_bytes};
 use crate::slot::{MapError, Slot};
 use amqp::tag::DeliveryTag;
 
+// So few slots are searched one by one: that is sooner done than a key is made.
+const FEW_SLOTS: usize = 8;
+
 // It holds the first `len` slots, in memory that is lent: a link takes no heap. An index leads from a tag to its slot. It has no model:
 // clauses would say `.items` and `.room` where they say `held` and `room`. That a call keeps the room is a fact of two tables.
 #[derive(Drop)]
@@ -91,6 +94,9 @@ impl<'a, M: Copy> UnsettledMap<'a, M> {
         ensures value { result ≡ place tag.now (held self.now) }
         ensures within { IfSome result (λ i. i < length (held self.now)) }
     {
+        if self.len <= FEW_SLOTS {
+            return self.search(tag);
+        }
         let slots = self.front();
         match self.index.find(key_of_bytes(tag.as_slice())) {
             Some(i) if i < slots.len() && slots[i].tag == *tag => Some(i),
@@ -135,8 +141,8 @@ impl<'a, M: Copy> UnsettledMap<'a, M> {
         Ok(())
     }
 
-    // Takes a tag out, and answers its entry. The last slot moves into the gap, so no other has to.
-    #[tactic(auto, using(crate::proofs::Memory::look_some, crate::proofs::Memory::look_none, crate::proofs::Memory::swap_last))]
+    // Takes a tag out, and answers its entry. The last slot moves into the gap, so no other has to; where it is the one that goes, none does.
+    #[tactic(auto, using(crate::proofs::Memory::look_some, crate::proofs::Memory::look_none, crate::proofs::Memory::swap_last, crate::proofs::Memory::last_out))]
     pub fn swap_remove(&mut self, tag: &DeliveryTag) -> Option<M>
         ensures answer { result ≡ look tag.now (held self.old) }
         ensures holds { held self.new ≡ swap_removed tag.now (held self.old) }
@@ -147,6 +153,9 @@ impl<'a, M: Copy> UnsettledMap<'a, M> {
         let last = self.slots[self.len - 1];
         self.len -= 1;
         self.index.remove(self.len);
+        if i == self.len {
+            return Some(entry);
+        }
         write(self.slots, &mut self.index, i, last);
         Some(entry)
     }
