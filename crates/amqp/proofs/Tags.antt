@@ -86,6 +86,10 @@ bytes_from s h =
 pub tag_is : (t : DeliveryTag) → length (tag_bytes t) ≤ 32 → tag_from (tag_bytes t) ≡ t
 tag_is t h = same_tags (tag_from (tag_bytes t)) t (bytes_from (tag_bytes t) h)
 
+-- and of bytes that are its own
+pub tag_of_bytes : (t : DeliveryTag) (s : List ℕ) → tag_bytes t ≡ s → t ≡ tag_from s
+tag_of_bytes t s e = sym (tag_is t (omega (arith, length-take (min t.len 32) t.bytes))) ∙ ap tag_from e
+
 pub stands : SameBytesSameTag
 unfolding tag_of
 stands = record { one = same_tags; of_bytes = bytes_from; of_count = λ n. refl }

@@ -36,6 +36,7 @@ impl Place {
     }
 
     // The frame, with the payload at the front of `memory`, as far as that reaches.
+    #[inline]
     pub fn frame<'m>(&self, memory: &'m [u8]) -> Frame<'m>
         ensures { waiting_of result ≡ frame_of self.now memory.now }
     {

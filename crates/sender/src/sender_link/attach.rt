@@ -187,7 +187,7 @@ impl<'a> SenderLink<'a> {
         ensures { self.new ≡ landed self.old (holding self.old (resumed self.old attach.now) (flat_map (end_of attach.now) self.old.held.table)) }
     {
         let slots = self.unsettled.front();
-        if attach.unsettled.len() <= FEW_PAIRS {
+        if slots.is_empty() || attach.unsettled.len() <= FEW_PAIRS {
             resume_by_search(&mut self.resume, &mut self.seats, slots, attach.unsettled);
         } else {
             resume_by_table(&mut self.resume, &mut self.seats, slots, attach.unsettled);
