@@ -25,18 +25,18 @@ tag_ext x y l b =
       clear = is_prop→PathP (λ j. Clear (l j) (b j)) (λ j. Prim.hlevel props) x.clear y.clear i;
     }
 
--- tags are compared by their lengths and bytes
-equal_itself : (x : DeliveryTag) → (x.len == x.len && bytes_eq x.bytes x.bytes) ≡ true
-equal_itself x = and_from _ _ ((Decides-eqb x.len x.len).1 refl) ((bytes_eq-Decides x.bytes x.bytes).1 refl)
+-- tags are compared by their bytes and lengths
+equal_itself : (x : DeliveryTag) → (bytes_eq x.bytes x.bytes && x.len == x.len) ≡ true
+equal_itself x = and_from _ _ ((bytes_eq-Decides x.bytes x.bytes).1 refl) ((Decides-eqb x.len x.len).1 refl)
 
-equal_means : (x y : DeliveryTag) → (x.len == y.len && bytes_eq x.bytes y.bytes) ≡ true → x ≡ y
+equal_means : (x y : DeliveryTag) → (bytes_eq x.bytes y.bytes && x.len == y.len) ≡ true → x ≡ y
 equal_means x y h =
-    let p = and_parts (x.len == y.len) _ h in
-    tag_ext x y ((Decides-eqb x.len y.len).0 p.0) ((bytes_eq-Decides x.bytes y.bytes).0 p.1)
+    let p = and_parts (bytes_eq x.bytes y.bytes) _ h in
+    tag_ext x y ((Decides-eqb x.len y.len).0 p.1) ((bytes_eq-Decides x.bytes y.bytes).0 p.0)
 
 -- which decides whether they are one
-pub equal_decides : (x y : DeliveryTag) → Decides (x.len == y.len && bytes_eq x.bytes y.bytes) (x ≡ y)
-equal_decides x y = (equal_means x y, λ e. ap (λ t. x.len == t.len && bytes_eq x.bytes t.bytes) (sym e) ∙ equal_itself x)
+pub equal_decides : (x y : DeliveryTag) → Decides (bytes_eq x.bytes y.bytes && x.len == y.len) (x ≡ y)
+equal_decides x y = (equal_means x y, λ e. ap (λ t. bytes_eq x.bytes t.bytes && x.len == t.len) (sym e) ∙ equal_itself x)
 
 -- a length that is at most 32 counts the bytes
 own : (t : DeliveryTag) → tag_bytes t ≡ take t.len t.bytes

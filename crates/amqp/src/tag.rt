@@ -6,11 +6,12 @@ mod same;
 pub use same::same_bytes_same_tag;
 
 // Zeros stand past its bytes, so that tags of the same bytes are equal, whoever made them. It is copied by value and takes no heap, as a link
-// does, and a vector of fixed capacity is not `Copy`: so the length stands beside the bytes.
+// does, and a vector of fixed capacity is not `Copy`: so the length stands beside the bytes. It stands behind them: then a tag is
+// compared in the same two pieces of sixteen bytes in which it was copied, and waits for no store.
 #[derive(Clone, Copy, PartialEq, Eq)]
 pub struct DeliveryTag {
-    len: u8,
     bytes: [u8; 32],
+    len: u8,
     pub ghost within: { (len ≤ 32) × (length bytes ≡ 32) },
     pub ghost clear: { drop len bytes ≡ replicate (32 - len) 0 },
 }

@@ -74,6 +74,10 @@ told_keyed n keys ss i y h e at =
 pub seat_keyed : (keys : List (Option ℕ)) (ss : List Seat) (i : ℕ) (y : Seat) → Keyed number_of keys (length ss) ss → i < length ss → Keyed number_of (set keys i (number_of y)) (length (set ss i y)) (set ss i y)
 seat_keyed keys ss i y h lt = subst (λ k. Keyed number_of (set keys i (number_of y)) k (set ss i y)) (sym (length-set ss i y)) (keyed_set number_of keys (length ss) ss i y lt h)
 
+-- the same of a seat that a call wrote
+pub seat_written : (keys under : List (Option ℕ)) (ss ts : List Seat) (i : ℕ) (y : Seat) → Keyed number_of keys (length ss) ss → i < length ss → ts ≡ set ss i y → under ≡ set keys i (number_of y) → Keyed number_of under (length ts) ts
+seat_written keys under ss ts i y h lt w u = rw (w, u) (seat_keyed keys ss i y h lt)
+
 pub told_taken : (n i : ℕ) (ss : List Seat) (y : Seat) → Taken n ss → i < length ss → is_some (number_of y) ≡ true → Taken n (set ss i y)
 told_taken n i ss y t lt e =
     record {
@@ -99,6 +103,9 @@ sat_taken i ss y at e =
           (read_set ss i k y d lt);
     }
 
+pub sat_written : (i : ℕ) (ss ts : List Seat) (y : Seat) → ts ≡ set ss i y → Some i ≡ position is_free ss → is_some (number_of y) ≡ true → Taken (i + 1) ts
+sat_written i ss ts y w at e = rw w (sat_taken i ss y at e)
+
 pub nobody_sits : (m : ℕ) (keys : List (Option ℕ)) (ss : List Seat) → keys ≡ replicate 1024 None → ss ≡ replicate m Free → Keyed number_of keys (length ss) ss
 unfolding Keyed
 nobody_sits m keys ss e f =
@@ -111,9 +118,9 @@ nobody_sits m keys ss e f =
           ∙ sym (ap number_of (ap (λ xs. get_or xs k x) f ∙ get_or-replicate m k Free x (omega (arith, l, a))));
     }
 
-pub vacated_keyed : (n : ℕ) (keys : List (Option ℕ)) (ss : List Seat) (o : Option ℕ) (i : ℕ) → Keyed number_of keys (length ss) ss → o ≡ position (sits n) ss → ok_or o NoSeat ≡ Ok i → Keyed number_of (set keys i None) (length (set ss i Free)) (set ss i Free)
-vacated_keyed n keys ss None i h e k = absurd (cc)
-vacated_keyed n keys ss (Some j) i h e k =
+pub vacated_keyed : (n : ℕ) (keys under : List (Option ℕ)) (ss ts : List Seat) (o : Option ℕ) (i : ℕ) (y : Seat) → Keyed number_of keys (length ss) ss → o ≡ position (sits n) ss → ok_or o NoSeat ≡ Ok i → ts ≡ set ss i y → under ≡ set keys i (number_of y) → Keyed number_of under (length ts) ts
+vacated_keyed n keys under ss ts None i y h e k w u = absurd (cc)
+vacated_keyed n keys under ss ts (Some j) i y h e k w u =
     let same : j ≡ i = cc in
     let lt = (position-Some (sits n) ss j Free (sym e)).0 in
-    seat_keyed keys ss i Free h (omega (arith, same, lt))
+    seat_written keys under ss ts i y h (omega (arith, same, lt)) w u

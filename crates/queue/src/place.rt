@@ -35,7 +35,8 @@ impl Place {
         }
     }
 
-    // The frame, with the payload at the front of `memory`, as far as that reaches.
+    // The frame, with the payload at the front of `memory`, as far as that reaches. It is inlined where frames are read out: a
+    // call would copy the header.
     #[inline]
     pub fn frame<'m>(&self, memory: &'m [u8]) -> Frame<'m>
         ensures { waiting_of result ≡ frame_of self.now memory.now }

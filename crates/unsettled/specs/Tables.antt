@@ -8,9 +8,9 @@ use Rattle.unsettled.specs.declared.slot.Slot.{Slot}
 use Rattle.unsettled.specs.declared.map.UnsettledMap.{UnsettledMap}
 use Rattle.unsettled.specs.Lists.{replaced}
 
--- two tags are one where their lengths and their bytes are equal
+-- two tags are one where their bytes and their lengths are equal
 unfoldable pub same_tag : DeliveryTag → DeliveryTag → Bool
-same_tag s t = s.len == t.len && bytes_eq s.bytes t.bytes
+same_tag s t = bytes_eq s.bytes t.bytes && s.len == t.len
 
 -- what a table holds, in order
 abbrev pub held : {M : Type 0} → UnsettledMap M → List (Slot M)

@@ -80,6 +80,8 @@ impl<'a, M: Copy> UnsettledMap<'a, M> {
         self.front().get(i).copied()
     }
 
+    // It is inlined, as are `find` and `put`: in a table of few entries such calls cost as much as the search.
+    #[inline(always)]
     #[tactic(auto, unfolding(crate::specs::Tables::same_tag))]
     fn search(&self, tag: &DeliveryTag) -> Option<usize>
         ensures value { result ≡ place tag.now (held self.now) }
@@ -90,6 +92,7 @@ impl<'a, M: Copy> UnsettledMap<'a, M> {
 
     // Where a tag stands first. What the index cannot tell is searched for: a tag that shares its key, or one past its places.
     // A place past the last slot was left by a tag that is there no more.
+    #[inline(always)]
     pub fn find(&self, tag: &DeliveryTag) -> Option<usize>
         ensures value { result ≡ place tag.now (held self.now) }
         ensures within { IfSome result (λ i. i < length (held self.now)) }
@@ -122,6 +125,7 @@ impl<'a, M: Copy> UnsettledMap<'a, M> {
     }
 
     // A new tag joins the end where there is room, and a present one has its entry replaced.
+    #[inline(always)]
     #[tactic(auto, using(crate::proofs::Memory::can_put_some, crate::proofs::Memory::can_put_none, crate::proofs::Memory::put_over, crate::proofs::Memory::put_next))]
     pub fn put(&mut self, tag: DeliveryTag, entry: M) -> Result<(), MapError>
         ensures answer { result ≡ (if can_put (room self.old) tag (held self.old) then Ok tt else Err MapError.Full) }

@@ -19,4 +19,4 @@ returns-clause-answer c =
 pub invariant_of-self-2-clause-keyed : goal.invariant_of-self-2-clause-keyed
 invariant_of-self-2-clause-keyed c =
     let s = c.args.self.now in
-    rw (c.write.ensures.seats, c.write.ensures.keys) (vacated_keyed c.args.number (keys_of s.index) s.seats.now c.find.result c.in_ok-i.i s.keyed c.find.ensures.found (sym c.ok_or.ensures.value ∙ c.in_ok-i.was))
+    vacated_keyed c.args.number (keys_of s.index) _ s.seats.now _ c.find.result c.in_ok-i.i _ s.keyed c.find.ensures.found (sym c.ok_or.ensures.value ∙ c.in_ok-i.was) c.write.ensures.seats c.write.ensures.keys
